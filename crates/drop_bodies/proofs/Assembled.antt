@@ -66,18 +66,7 @@ module _ (items : ItemTable) (body : Body) (flagged : List plain.Place) (after :
       DropEnds items body flagged after how kind place next unwind ending term →
       EndsNow (Term.DropAt place next unwind) ending term) → EndsNow raw ending term
   ends-so how (Term.DropAt place next unwind) ending term h drops = drops place next unwind refl ending term h
-  ends-so how (Term.Goto to) ending term h drops = other (Term.Goto to) ending term refl h
-  ends-so how (Term.If on there to) ending term h drops = other (Term.If on there to) ending term refl h
-  ends-so how (Term.Case on variant there to) ending term h drops = other (Term.Case on variant there to) ending term refl h
-  ends-so how (Term.Math to op left right next unwind) ending term h drops = other (Term.Math to op left right next unwind) ending term refl h
-  ends-so how (Term.Negate to of next unwind) ending term h drops = other (Term.Negate to of next unwind) ending term refl h
-  ends-so how (Term.Bounds index count next unwind) ending term h drops = other (Term.Bounds index count next unwind) ending term refl h
-  ends-so how (Term.Call to callee args next unwind) ending term h drops = other (Term.Call to callee args next unwind) ending term refl h
-  ends-so how (Term.Virtual to trait_no method args next unwind) ending term h drops = other (Term.Virtual to trait_no method args next unwind) ending term refl h
-  ends-so how (Term.Ask to next unwind) ending term h drops = other (Term.Ask to next unwind) ending term refl h
-  ends-so how (Term.Panic why unwind) ending term h drops = other (Term.Panic why unwind) ending term refl h
-  ends-so how Term.Return ending term h drops = other Term.Return ending term refl h
-  ends-so how Term.Resume ending term h drops = other Term.Resume ending term refl h
+  ends-so how others ending term h drops = other others ending term refl h
 
 right-at : {A : Type 0} (xs ys : List A) (i : ℕ) (y : A) → slice_get ys i ≡ Some y → slice_get (xs ++ ys) (length xs + i) ≡ Some y
 right-at [] ys i y e = (let z : 0 + i ≡ i = omega arith in ap (slice_get ys) z) ∙ e

@@ -124,19 +124,8 @@ module _ (kinds : ℕ → Option DropKind) where
 pub kind-of-other : (paths : List Place) (how : Decided) (term : Term) →
     ((place : graph.Place) (next : ℕ) (unwind : Unwind) → term ≡ Term.DropAt place next unwind → ⊥) →
     kind_of paths how term ≡ None
-kind-of-other paths how (Term.Goto to) none = refl
-kind-of-other paths how (Term.If on there to) none = refl
-kind-of-other paths how (Term.Case on variant there to) none = refl
-kind-of-other paths how (Term.Math to op left right next unwind) none = refl
-kind-of-other paths how (Term.Negate to of next unwind) none = refl
-kind-of-other paths how (Term.Bounds index count next unwind) none = refl
-kind-of-other paths how (Term.Call to callee args next unwind) none = refl
-kind-of-other paths how (Term.Virtual to trait_no method args next unwind) none = refl
-kind-of-other paths how (Term.Ask to next unwind) none = refl
 kind-of-other paths how (Term.DropAt place next unwind) none = absurd (none place next unwind refl)
-kind-of-other paths how (Term.Panic why unwind) none = refl
-kind-of-other paths how Term.Return none = refl
-kind-of-other paths how Term.Resume none = refl
+kind-of-other paths how other none = refl
 
 pub kind-at : (paths : List Place) (decided : List Decided) (blocks : List Block) (n : ℕ) (block : Block) (how : Decided) →
     slice_get blocks n ≡ Some block → slice_get decided n ≡ Some how →

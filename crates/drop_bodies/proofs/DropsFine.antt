@@ -141,15 +141,4 @@ module _ (items : ItemTable) (bodies number : ℕ) (body : Body) (none : NoFault
           (kind_after items body flagged body block.kind) how t
       by (Term.DropAt place next unwind) is =
           fine-by place next unwind is how (are_decided.each n block place how (at, (next, unwind, is)) at_how)
-      by (Term.Goto to) is = fine-stores (map (λ place. (Stores, place)) (stored_by_term (Term.Goto to)))
-      by (Term.If on there to) is = fine-stores (map (λ place. (Stores, place)) (stored_by_term (Term.If on there to)))
-      by (Term.Case on variant there to) is = fine-stores (map (λ place. (Stores, place)) (stored_by_term (Term.Case on variant there to)))
-      by (Term.Math to op left right next unwind) is = fine-stores (map (λ place. (Stores, place)) (stored_by_term (Term.Math to op left right next unwind)))
-      by (Term.Negate to of next unwind) is = fine-stores (map (λ place. (Stores, place)) (stored_by_term (Term.Negate to of next unwind)))
-      by (Term.Bounds index count next unwind) is = fine-stores (map (λ place. (Stores, place)) (stored_by_term (Term.Bounds index count next unwind)))
-      by (Term.Call to callee args next unwind) is = fine-stores (map (λ place. (Stores, place)) (stored_by_term (Term.Call to callee args next unwind)))
-      by (Term.Virtual to trait_no method args next unwind) is = fine-stores (map (λ place. (Stores, place)) (stored_by_term (Term.Virtual to trait_no method args next unwind)))
-      by (Term.Ask to next unwind) is = fine-stores (map (λ place. (Stores, place)) (stored_by_term (Term.Ask to next unwind)))
-      by (Term.Panic why unwind) is = fine-stores (map (λ place. (Stores, place)) (stored_by_term (Term.Panic why unwind)))
-      by Term.Return is = fine-stores (map (λ place. (Stores, place)) (stored_by_term Term.Return))
-      by Term.Resume is = fine-stores (map (λ place. (Stores, place)) (stored_by_term Term.Resume))
+      by other is = fine-stores (map (λ place. (Stores, place)) (stored_by_term other))

@@ -189,15 +189,7 @@ module _ (Q : Block → Type 0) where
       term-end-kept (Term.Ask to next unwind) made fine cleans calms =
           onward-kept (Term.Ask to next unwind) (term_end items body flagged kind (Term.Ask to next unwind) made).term
           _ next made fine refl refl refl (λ c. cleans c) refl
-      term-end-kept (Term.Goto to) made fine cleans calms = stays-kept (Term.Goto to) made cleans calms
-      term-end-kept (Term.If on there to) made fine cleans calms = stays-kept (Term.If on there to) made cleans calms
-      term-end-kept (Term.Case on variant there to) made fine cleans calms =
-          stays-kept (Term.Case on variant there to) made cleans calms
-      term-end-kept (Term.DropAt place next unwind) made fine cleans calms =
-          stays-kept (Term.DropAt place next unwind) made cleans calms
-      term-end-kept (Term.Panic why unwind) made fine cleans calms = stays-kept (Term.Panic why unwind) made cleans calms
-      term-end-kept Term.Return made fine cleans calms = stays-kept Term.Return made cleans calms
-      term-end-kept Term.Resume made fine cleans calms = stays-kept Term.Resume made cleans calms
+      term-end-kept other made fine cleans calms = stays-kept other made cleans calms
 
       -- a drop, by what is decided of it
       abbrev DropFineBy : Decided → Place → Type 0
@@ -249,24 +241,4 @@ module _ (Q : Block → Type 0) where
           EndKept term made (end_by items body flagged decided kind term made)
       end-kept decided (Term.DropAt place next unwind) made resumes fine cleans calms =
           drop-end-kept decided place next unwind made fine.0 resumes fine.1 cleans
-      end-kept decided (Term.Goto to) made resumes fine cleans calms = term-end-kept (Term.Goto to) made fine cleans calms
-      end-kept decided (Term.If on there to) made resumes fine cleans calms =
-          term-end-kept (Term.If on there to) made fine cleans calms
-      end-kept decided (Term.Case on variant there to) made resumes fine cleans calms =
-          term-end-kept (Term.Case on variant there to) made fine cleans calms
-      end-kept decided (Term.Math to op left right next unwind) made resumes fine cleans calms =
-          term-end-kept (Term.Math to op left right next unwind) made fine cleans calms
-      end-kept decided (Term.Negate to of next unwind) made resumes fine cleans calms =
-          term-end-kept (Term.Negate to of next unwind) made fine cleans calms
-      end-kept decided (Term.Bounds index count next unwind) made resumes fine cleans calms =
-          term-end-kept (Term.Bounds index count next unwind) made fine cleans calms
-      end-kept decided (Term.Call to callee args next unwind) made resumes fine cleans calms =
-          term-end-kept (Term.Call to callee args next unwind) made fine cleans calms
-      end-kept decided (Term.Virtual to trait_no method args next unwind) made resumes fine cleans calms =
-          term-end-kept (Term.Virtual to trait_no method args next unwind) made fine cleans calms
-      end-kept decided (Term.Ask to next unwind) made resumes fine cleans calms =
-          term-end-kept (Term.Ask to next unwind) made fine cleans calms
-      end-kept decided (Term.Panic why unwind) made resumes fine cleans calms =
-          term-end-kept (Term.Panic why unwind) made fine cleans calms
-      end-kept decided Term.Return made resumes fine cleans calms = term-end-kept Term.Return made fine cleans calms
-      end-kept decided Term.Resume made resumes fine cleans calms = term-end-kept Term.Resume made fine cleans calms
+      end-kept decided other made resumes fine cleans calms = term-end-kept other made fine cleans calms

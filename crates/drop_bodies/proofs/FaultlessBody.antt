@@ -82,13 +82,7 @@ module _ (items : ItemTable) (bodies number : ℕ) (body : Body) (none : NoFault
       record { numbers = f.numbers; exist = f.exist; typed = f.typed }
   onward-fine from (Term.Ask to next unwind) f = record { numbers = f.numbers; exist = f.exist; typed = f.typed }
   onward-fine from (Term.Bounds index count next unwind) f = record { numbers = f.numbers; exist = f.exist; typed = f.typed }
-  onward-fine from (Term.Goto to) f = f
-  onward-fine from (Term.If on there to) f = f
-  onward-fine from (Term.Case on variant there to) f = f
-  onward-fine from (Term.DropAt place next unwind) f = f
-  onward-fine from (Term.Panic why unwind) f = f
-  onward-fine from Term.Return f = f
-  onward-fine from Term.Resume f = f
+  onward-fine from other f = f
 
   ends-fine : (n : ℕ) (kind : Kind) (raw : Term) (ending : List Stmt) (term : Term) →
       Ends items body flagged after n kind raw ending term → FineTerm raw → FineTerm term

@@ -138,17 +138,7 @@ module _ (items : ItemTable) (locals flags : List TyId) where
   elements-same operands None h = refl
   elements-same operands (Some (Ty.Array element count)) h =
       λ i. (length operands == count) && all-same element operands h i
-  elements-same operands (Some (Ty.Int kind)) h = refl
-  elements-same operands (Some Ty.Bool) h = refl
-  elements-same operands (Some Ty.Unit) h = refl
-  elements-same operands (Some Ty.Never) h = refl
-  elements-same operands (Some (Ty.Tuple parts)) h = refl
-  elements-same operands (Some (Ty.Adt n)) h = refl
-  elements-same operands (Some (Ty.Closure n)) h = refl
-  elements-same operands (Some (Ty.Boxed inside)) h = refl
-  elements-same operands (Some (Ty.Shared to)) h = refl
-  elements-same operands (Some (Ty.Unique to)) h = refl
-  elements-same operands (Some (Ty.Dyn n)) h = refl
+  elements-same operands (Some other) h = refl
 
   stmt-types : (stmt : Stmt) → OperandsIn (operands_of_stmt stmt) → PlacesIn (map place_used (other_uses stmt)) →
       PlacesIn (stored_by_stmt stmt) → stmt_has_types items longer stmt ≡ stmt_has_types items locals stmt
@@ -288,16 +278,4 @@ module _ (items : ItemTable) (locals flags : List TyId) where
       let parts = split-in (flat_map operand_uses (from ∷ []) ++ []) ((Stores, to) ∷ []) h in
       let taken = operands-in (from ∷ []) [] parts.0 in
       λ i. has_row items bodies trait_no (box_content (operand-same from taken.0.0 i))
-  row-same bodies (Stmt.Put to from) h = refl
-  row-same bodies (Stmt.Compare to op left right) h = refl
-  row-same bodies (Stmt.Not to operand) h = refl
-  row-same bodies (Stmt.Tuple to parts) h = refl
-  row-same bodies (Stmt.Array to parts) h = refl
-  row-same bodies (Stmt.Make to adt variant parts) h = refl
-  row-same bodies (Stmt.Close to closure parts) h = refl
-  row-same bodies (Stmt.NewBox to operand) h = refl
-  row-same bodies (Stmt.Borrow to unique of) h = refl
-  row-same bodies (Stmt.Touch place) h = refl
-  row-same bodies (Stmt.Print operand) h = refl
-  row-same bodies (Stmt.Forget operand) h = refl
-  row-same bodies (Stmt.Free place) h = refl
+  row-same bodies other h = refl

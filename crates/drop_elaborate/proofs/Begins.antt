@@ -88,12 +88,7 @@ in-more : (v : Datum) (vs : List Datum) (b : Addr) → Contains (addresses_of vs
     Contains (addresses_of (v ∷ vs)) b
 in-more (Address a) vs b c =
     Contains-slice_get (a ∷ addresses_of vs) (suc c.0) b (slice_get-Contains (addresses_of vs) b c)
-in-more Gone vs b c = c
-in-more (Number x) vs b c = c
-in-more (Truth x) vs b c = c
-in-more UnitValue vs b c = c
-in-more (Aggregate x y z) vs b c = c
-in-more (Box x y z) vs b c = c
+in-more other vs b c = c
 
 in-first : (v : Datum) (vs : List Datum) (b : Addr) → v ≡ Address b → Contains (addresses_of (v ∷ vs)) b
 in-first v vs b e =

@@ -197,14 +197,7 @@ module _ (items : ItemTable) (body : Body) (bodies : ℕ) (ready : BodyIsReady i
   next-of (Term.Ask to' b unwind) e to s = (b, Contains-slice_get (b ∷ []) 0 b refl)
   next-of (Term.Call to' callee args b unwind) e to s = (b, Contains-slice_get (b ∷ []) 0 b refl)
   next-of (Term.Virtual to' trait_no method args b unwind) e to s = (b, Contains-slice_get (b ∷ []) 0 b refl)
-  next-of (Term.Bounds index count b unwind) e to s = absurd (let x : [] ≡ to ∷ [] = s in cc)
-  next-of (Term.DropAt place b unwind) e to s = absurd (let x : [] ≡ to ∷ [] = s in cc)
-  next-of (Term.Panic why unwind) e to s = absurd (let x : [] ≡ to ∷ [] = s in cc)
-  next-of (Term.Goto b) e to s = absurd (let x : [] ≡ to ∷ [] = s in cc)
-  next-of (Term.If on y z) e to s = absurd (let x : [] ≡ to ∷ [] = s in cc)
-  next-of (Term.Case on variant y z) e to s = absurd (let x : [] ≡ to ∷ [] = s in cc)
-  next-of Term.Return e to s = absurd (let x : [] ≡ to ∷ [] = s in cc)
-  next-of Term.Resume e to s = absurd (let x : [] ≡ to ∷ [] = s in cc)
+  next-of other e to s = absurd (let x : [] ≡ to ∷ [] = s in cc)
 
   pub goes-on : (to : graph.Place) → stored_by_term block.term ≡ to ∷ [] →
       is_never (ty_of_place items body.locals to) ≡ false → (later : List PathAction)

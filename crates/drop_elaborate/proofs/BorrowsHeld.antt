@@ -68,16 +68,7 @@ module _ (items : ItemTable) where
   no-plain-step (Ty.Unique to) (ToField v n) next r e p = none-some next e
   no-plain-step (Ty.Unique to) ToContent next r e p = false≢true (sym p)
   no-plain-step (Ty.Unique to) (ToElement i) next r e p = p
-  no-plain-step (Ty.Int kind) step next r e p = false≢true r
-  no-plain-step Ty.Bool step next r e p = false≢true r
-  no-plain-step Ty.Unit step next r e p = false≢true r
-  no-plain-step Ty.Never step next r e p = false≢true r
-  no-plain-step (Ty.Adt n) step next r e p = false≢true r
-  no-plain-step (Ty.Tuple ts) step next r e p = false≢true r
-  no-plain-step (Ty.Array x c) step next r e p = false≢true r
-  no-plain-step (Ty.Boxed x) step next r e p = false≢true r
-  no-plain-step (Ty.Dyn n) step next r e p = false≢true r
-  no-plain-step (Ty.Closure n) step next r e p = false≢true r
+  no-plain-step other step next r e p = false≢true r
 
   -- no plain step leads on from a reference
   pub reference-steps : (steps : List Step) (id end : TyId) → PlainSteps items steps id end →

@@ -50,13 +50,6 @@ module _ (items : ItemTable) (local_ty : (body local : ℕ) → Option TyId) (bo
       (u : State) (callee : ℕ) → AllFull items m.params vs → AllNameFull items local_ty u (addresses_of vs) →
       virtual_body raw trait_no method u vs ≡ Some callee →
       Enters items local_ty callee vs u × (local_ty callee 0 ≡ Some m.result)
-  virtual-enters trait_no method m is [] u callee full named e = absurd (none-some callee e)
-  virtual-enters trait_no method m is (Gone ∷ vs) u callee full named e = absurd (none-some callee e)
-  virtual-enters trait_no method m is (Number x ∷ vs) u callee full named e = absurd (none-some callee e)
-  virtual-enters trait_no method m is (Truth x ∷ vs) u callee full named e = absurd (none-some callee e)
-  virtual-enters trait_no method m is (UnitValue ∷ vs) u callee full named e = absurd (none-some callee e)
-  virtual-enters trait_no method m is (Aggregate x y z ∷ vs) u callee full named e = absurd (none-some callee e)
-  virtual-enters trait_no method m is (Box x y z ∷ vs) u callee full named e = absurd (none-some callee e)
   virtual-enters trait_no method m is (Address a ∷ vs) u callee full named e = by (located_at raw u a) refl e
     where
       Answer : Type 0
@@ -95,3 +88,4 @@ module _ (items : ItemTable) (local_ty : (body local : ℕ) → Option TyId) (bo
       by None h e = absurd (none-some callee e)
       by (Some s) h e =
           of-found s.dynamic e ((named a (Contains-slice_get (a ∷ addresses_of vs) 0 a refl)).0 s h).0
+  virtual-enters trait_no method m is other u callee full named e = absurd (none-some callee e)

@@ -172,31 +172,16 @@ module _ (items : ItemTable) (local_ty : (body local : ℕ) → Option TyId) (nu
       compute-leaves : (operator : Math) (k : Option IntKind) (a c : Datum) (u : State) → HeldNow used u →
           LeavesIf never n line used (to ∷ []) (compute raw (site_of 0 to) operator k a c u)
       compute-leaves operator None a c u h = tt
-      compute-leaves operator (Some k) Gone c u h = tt
-      compute-leaves operator (Some k) (Truth x) c u h = tt
-      compute-leaves operator (Some k) UnitValue c u h = tt
-      compute-leaves operator (Some k) (Aggregate x y z) c u h = tt
-      compute-leaves operator (Some k) (Box x y z) c u h = tt
-      compute-leaves operator (Some k) (Address x) c u h = tt
-      compute-leaves operator (Some k) (Number a) Gone u h = tt
-      compute-leaves operator (Some k) (Number a) (Truth x) u h = tt
-      compute-leaves operator (Some k) (Number a) UnitValue u h = tt
-      compute-leaves operator (Some k) (Number a) (Aggregate x y z) u h = tt
-      compute-leaves operator (Some k) (Number a) (Box x y z) u h = tt
-      compute-leaves operator (Some k) (Number a) (Address x) u h = tt
       compute-leaves operator (Some k) (Number a) (Number b) u h = computed-leaves (computed operator k a b) u h
+      compute-leaves operator (Some k) (Number a) other u h = tt
+      compute-leaves operator (Some k) other c u h = tt
 
       negate-leaves : (k : Option IntKind) (a : Datum) (u : State) → HeldNow used u → LeavesIf never n line used (to ∷
           [])
           (negate raw (site_of 0 to) k a u)
       negate-leaves None a u h = tt
-      negate-leaves (Some k) Gone u h = tt
-      negate-leaves (Some k) (Truth x) u h = tt
-      negate-leaves (Some k) UnitValue u h = tt
-      negate-leaves (Some k) (Aggregate x y z) u h = tt
-      negate-leaves (Some k) (Box x y z) u h = tt
-      negate-leaves (Some k) (Address x) u h = tt
       negate-leaves (Some k) (Number a) u h = computed-leaves (if_within k (neg_ℤ a)) u h
+      negate-leaves (Some k) other u h = tt
 
       asked-leaves : (numbers : List ℤ) (u : State) → HeldNow used u → LeavesIf never n line used (to ∷ [])
           (asked raw (site_of 0 to) numbers u)
@@ -210,17 +195,12 @@ module _ (items : ItemTable) (local_ty : (body local : ℕ) → Option TyId) (nu
 
     bounded-leaves : (count : ℕ) (v : Datum) (u : State) → HeldNow used u → Leaves n line used []
         (bounded raw count v u)
-    bounded-leaves count Gone u h = tt
-    bounded-leaves count (Truth x) u h = tt
-    bounded-leaves count UnitValue u h = tt
-    bounded-leaves count (Aggregate x y z) u h = tt
-    bounded-leaves count (Box x y z) u h = tt
-    bounded-leaves count (Address x) u h = tt
     bounded-leaves count (Number x) u h = by (int_lt x (pos count))
       where
         by : (b : Bool) → Leaves n line used [] (within_bounds raw b u)
         by true = subst (λ l. HeldNow l u) (sym (no_more used)) h
         by false = panics-leave Why.Index [] u h
+    bounded-leaves count other u h = tt
 
   -- ---- the terminators
 

@@ -81,12 +81,7 @@ module _ (items : ItemTable) (local_ty : (body local : ℕ) → Option TyId) whe
 
       of : (d : Datum) → (variant_tested raw variant d w ≡ Yes v) ⊎ (variant_tested raw variant d w ≡ No v) → w ≡ v
       of (Aggregate active serial parts) c = abbreviated (variant == active) c
-      of Gone c = never c
-      of (Number x) c = never c
-      of (Truth x) c = never c
-      of UnitValue c = never c
-      of (Box x y z) c = never c
-      of (Address x) c = never c
+      of other c = never c
 
       by : (r : Reached) →
           (on_reached r (λ s. variant_tested raw variant s.value w) (Neither Stuck w) (Neither Stuck w) ≡ Yes v)

@@ -30,17 +30,7 @@ use Rattle.drop_elaborate.specs.Kinds.{is_box, is_numbered, place_id, Comes, IsD
 box-is : (o : Option Ty) → is_box o ≡ true → (content : TyId) × (o ≡ Some (Ty.Boxed content))
 box-is (Some (Ty.Boxed t)) h = (t, refl)
 box-is None h = absurd (false≢true h)
-box-is (Some (Ty.Int kind)) h = absurd (false≢true h)
-box-is (Some Ty.Bool) h = absurd (false≢true h)
-box-is (Some Ty.Unit) h = absurd (false≢true h)
-box-is (Some Ty.Never) h = absurd (false≢true h)
-box-is (Some (Ty.Adt n)) h = absurd (false≢true h)
-box-is (Some (Ty.Tuple ts)) h = absurd (false≢true h)
-box-is (Some (Ty.Array t c)) h = absurd (false≢true h)
-box-is (Some (Ty.Dyn n)) h = absurd (false≢true h)
-box-is (Some (Ty.Shared t)) h = absurd (false≢true h)
-box-is (Some (Ty.Unique t)) h = absurd (false≢true h)
-box-is (Some (Ty.Closure n)) h = absurd (false≢true h)
+box-is (Some other) h = absurd (false≢true h)
 
 -- what names a content is a box or a reference
 content-box : (o : Option Ty) (next : TyId) → is_reference o ≡ false → option_and_then content_of o ≡ Some next →
@@ -48,17 +38,9 @@ content-box : (o : Option Ty) (next : TyId) → is_reference o ≡ false → opt
 content-box (Some (Ty.Boxed t)) next r e =
     ap (λ t. Some (Ty.Boxed t)) (let x : Some t ≡ Some next = e in let y : t ≡ next = cc in y)
 content-box None next r e = absurd (none-some next e)
-content-box (Some (Ty.Int kind)) next r e = absurd (none-some next e)
-content-box (Some Ty.Bool) next r e = absurd (none-some next e)
-content-box (Some Ty.Unit) next r e = absurd (none-some next e)
-content-box (Some Ty.Never) next r e = absurd (none-some next e)
-content-box (Some (Ty.Adt n)) next r e = absurd (none-some next e)
-content-box (Some (Ty.Tuple ts)) next r e = absurd (none-some next e)
-content-box (Some (Ty.Array t c)) next r e = absurd (none-some next e)
-content-box (Some (Ty.Dyn n)) next r e = absurd (none-some next e)
 content-box (Some (Ty.Shared t)) next r e = absurd (false≢true (sym r))
 content-box (Some (Ty.Unique t)) next r e = absurd (false≢true (sym r))
-content-box (Some (Ty.Closure n)) next r e = absurd (none-some next e)
+content-box (Some other) next r e = absurd (none-some next e)
 
 part-there : {A : Type 0} (b : Bool) (o : Option A) (x : A) → unless_enum b o ≡ Some x → o ≡ Some x
 part-there true o x e = absurd (none-some x e)

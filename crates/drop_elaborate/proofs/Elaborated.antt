@@ -27,35 +27,17 @@ use Rattle.drop_elaborate.proofs.WalkOf.{Walk, walks}
 still_stuck : (halt : Halt) → IsStuck (unplaced halt) → IsStuck halt
 still_stuck Stuck h = tt
 still_stuck (StuckAt body block) h = tt
-still_stuck Aborted h = h
-still_stuck OutOfTicks h = h
-still_stuck (BadUse site) h = h
-still_stuck (BadStore site) h = h
-still_stuck NoChoice h = h
-still_stuck Infeasible h = h
-still_stuck Unreachable h = h
+still_stuck other h = h
 
 stuck_or_not : (halt : Halt) → IsStuck halt ⊎ (unplaced halt ≡ halt)
-stuck_or_not Aborted = inr refl
-stuck_or_not OutOfTicks = inr refl
 stuck_or_not Stuck = inl tt
 stuck_or_not (StuckAt body block) = inl tt
-stuck_or_not (BadUse site) = inr refl
-stuck_or_not (BadStore site) = inr refl
-stuck_or_not NoChoice = inr refl
-stuck_or_not Infeasible = inr refl
-stuck_or_not Unreachable = inr refl
+stuck_or_not other = inr refl
 
 stuck_unplaced : (halt : Halt) → IsStuck halt → IsStuck (unplaced halt)
 stuck_unplaced Stuck h = tt
 stuck_unplaced (StuckAt body block) h = tt
-stuck_unplaced Aborted h = h
-stuck_unplaced OutOfTicks h = h
-stuck_unplaced (BadUse site) h = h
-stuck_unplaced (BadStore site) h = h
-stuck_unplaced NoChoice h = h
-stuck_unplaced Infeasible h = h
-stuck_unplaced Unreachable h = h
+stuck_unplaced other h = h
 
 -- the same halt, where it is no missing step
 same_halt : (halt other : Halt) → unplaced other ≡ unplaced halt → IsStuck halt ⊎ (other ≡ halt)

@@ -39,15 +39,9 @@ use Rattle.drop_elaborate.proofs.IdleLadder.{at_block, few'}
 use Rattle.drop_elaborate.proofs.TakenParts.{Emptied_of as EmptiedOf}
 
 stuck_or_not : (halt : Halt) → IsStuck halt ⊎ (unplaced halt ≡ halt)
-stuck_or_not Aborted = inr refl
-stuck_or_not OutOfTicks = inr refl
 stuck_or_not Stuck = inl tt
 stuck_or_not (StuckAt body block) = inl tt
-stuck_or_not (BadUse site) = inr refl
-stuck_or_not (BadStore site) = inr refl
-stuck_or_not NoChoice = inr refl
-stuck_or_not Infeasible = inr refl
-stuck_or_not Unreachable = inr refl
+stuck_or_not other = inr refl
 
 module _ (items : ItemTable) (local_ty local_ty' : (body local : ℕ) → Option TyId)
     (extends : Extends local_ty local_ty') (run run' : Bodies)

@@ -52,17 +52,7 @@ pointwise-at p (a ∷ xs) (b ∷ ys) (suc k) x y h e f =
 one-trait : (n m : ℕ) (o : Option Ty) → is_dyn_of n o ≡ true → is_dyn_of m o ≡ true → n ≡ m
 one-trait n m None h g = absurd (false≢true h)
 one-trait n m (Some (Ty.Dyn k)) h g = (Decides-eqb n k).0 h ∙ sym ((Decides-eqb m k).0 g)
-one-trait n m (Some (Ty.Int kind)) h g = absurd (false≢true h)
-one-trait n m (Some Ty.Bool) h g = absurd (false≢true h)
-one-trait n m (Some Ty.Unit) h g = absurd (false≢true h)
-one-trait n m (Some Ty.Never) h g = absurd (false≢true h)
-one-trait n m (Some (Ty.Adt k)) h g = absurd (false≢true h)
-one-trait n m (Some (Ty.Tuple ts)) h g = absurd (false≢true h)
-one-trait n m (Some (Ty.Array t c)) h g = absurd (false≢true h)
-one-trait n m (Some (Ty.Boxed t)) h g = absurd (false≢true h)
-one-trait n m (Some (Ty.Shared t)) h g = absurd (false≢true h)
-one-trait n m (Some (Ty.Unique t)) h g = absurd (false≢true h)
-one-trait n m (Some (Ty.Closure k)) h g = absurd (false≢true h)
+one-trait n m (Some other) h g = absurd (false≢true h)
 
 module _ (graph : Graph) (well : IsWellFormed graph) where
   abbrev items : ItemTable
@@ -127,42 +117,13 @@ module _ (graph : Graph) (well : IsWellFormed graph) where
 
   selves-refer : (adt : ℕ) (o p : Option Ty) → are_selves items bodies adt o p ≡ true → is_reference p ≡ true
   selves-refer adt None p h = absurd (false≢true h)
-  selves-refer adt (Some (Ty.Int kind)) p h = absurd (false≢true h)
-  selves-refer adt (Some Ty.Bool) p h = absurd (false≢true h)
-  selves-refer adt (Some Ty.Unit) p h = absurd (false≢true h)
-  selves-refer adt (Some Ty.Never) p h = absurd (false≢true h)
-  selves-refer adt (Some (Ty.Adt k)) p h = absurd (false≢true h)
-  selves-refer adt (Some (Ty.Tuple ts)) p h = absurd (false≢true h)
-  selves-refer adt (Some (Ty.Array t c)) p h = absurd (false≢true h)
-  selves-refer adt (Some (Ty.Boxed t)) p h = absurd (false≢true h)
-  selves-refer adt (Some (Ty.Dyn k)) p h = absurd (false≢true h)
   selves-refer adt (Some (Ty.Shared t)) None h = absurd (false≢true h)
-  selves-refer adt (Some (Ty.Shared t)) (Some (Ty.Int kind)) h = absurd (false≢true h)
-  selves-refer adt (Some (Ty.Shared t)) (Some Ty.Bool) h = absurd (false≢true h)
-  selves-refer adt (Some (Ty.Shared t)) (Some Ty.Unit) h = absurd (false≢true h)
-  selves-refer adt (Some (Ty.Shared t)) (Some Ty.Never) h = absurd (false≢true h)
-  selves-refer adt (Some (Ty.Shared t)) (Some (Ty.Adt m)) h = absurd (false≢true h)
-  selves-refer adt (Some (Ty.Shared t)) (Some (Ty.Tuple us)) h = absurd (false≢true h)
-  selves-refer adt (Some (Ty.Shared t)) (Some (Ty.Array u c)) h = absurd (false≢true h)
-  selves-refer adt (Some (Ty.Shared t)) (Some (Ty.Boxed u)) h = absurd (false≢true h)
-  selves-refer adt (Some (Ty.Shared t)) (Some (Ty.Dyn m)) h = absurd (false≢true h)
   selves-refer adt (Some (Ty.Shared t)) (Some (Ty.Shared u)) h = refl
-  selves-refer adt (Some (Ty.Shared t)) (Some (Ty.Unique u)) h = absurd (false≢true h)
-  selves-refer adt (Some (Ty.Shared t)) (Some (Ty.Closure m)) h = absurd (false≢true h)
   selves-refer adt (Some (Ty.Unique t)) None h = absurd (false≢true h)
-  selves-refer adt (Some (Ty.Unique t)) (Some (Ty.Int kind)) h = absurd (false≢true h)
-  selves-refer adt (Some (Ty.Unique t)) (Some Ty.Bool) h = absurd (false≢true h)
-  selves-refer adt (Some (Ty.Unique t)) (Some Ty.Unit) h = absurd (false≢true h)
-  selves-refer adt (Some (Ty.Unique t)) (Some Ty.Never) h = absurd (false≢true h)
-  selves-refer adt (Some (Ty.Unique t)) (Some (Ty.Adt m)) h = absurd (false≢true h)
-  selves-refer adt (Some (Ty.Unique t)) (Some (Ty.Tuple us)) h = absurd (false≢true h)
-  selves-refer adt (Some (Ty.Unique t)) (Some (Ty.Array u c)) h = absurd (false≢true h)
-  selves-refer adt (Some (Ty.Unique t)) (Some (Ty.Boxed u)) h = absurd (false≢true h)
-  selves-refer adt (Some (Ty.Unique t)) (Some (Ty.Dyn m)) h = absurd (false≢true h)
-  selves-refer adt (Some (Ty.Unique t)) (Some (Ty.Shared u)) h = absurd (false≢true h)
   selves-refer adt (Some (Ty.Unique t)) (Some (Ty.Unique u)) h = refl
-  selves-refer adt (Some (Ty.Unique t)) (Some (Ty.Closure m)) h = absurd (false≢true h)
-  selves-refer adt (Some (Ty.Closure k)) p h = absurd (false≢true h)
+  selves-refer adt (Some (Ty.Shared t)) (Some other) h = absurd (false≢true h)
+  selves-refer adt (Some (Ty.Unique t)) (Some other) h = absurd (false≢true h)
+  selves-refer adt (Some other) p h = absurd (false≢true h)
 
   implements : (adt : ℕ) (m sig : Sig) → sig_implements items bodies adt m sig ≡ true → Implements items m sig
   implements adt m sig h =
@@ -249,17 +210,7 @@ module _ (graph : Graph) (well : IsWellFormed graph) where
   unique-refers : (n : ℕ) (o : Option Ty) → is_unique_adt items bodies n o ≡ true → is_reference o ≡ true
   unique-refers n None h = absurd (false≢true h)
   unique-refers n (Some (Ty.Unique t)) h = refl
-  unique-refers n (Some (Ty.Int kind)) h = absurd (false≢true h)
-  unique-refers n (Some Ty.Bool) h = absurd (false≢true h)
-  unique-refers n (Some Ty.Unit) h = absurd (false≢true h)
-  unique-refers n (Some Ty.Never) h = absurd (false≢true h)
-  unique-refers n (Some (Ty.Adt k)) h = absurd (false≢true h)
-  unique-refers n (Some (Ty.Tuple ts)) h = absurd (false≢true h)
-  unique-refers n (Some (Ty.Array t c)) h = absurd (false≢true h)
-  unique-refers n (Some (Ty.Boxed t)) h = absurd (false≢true h)
-  unique-refers n (Some (Ty.Dyn k)) h = absurd (false≢true h)
-  unique-refers n (Some (Ty.Shared t)) h = absurd (false≢true h)
-  unique-refers n (Some (Ty.Closure k)) h = absurd (false≢true h)
+  unique-refers n (Some other) h = absurd (false≢true h)
 
   one-param : (n : ℕ) (params : List TyId) → are_dropped items bodies n params ≡ true →
       (only : TyId) × (params ≡ only ∷ []) × (is_reference (type_at items only) ≡ true)
@@ -299,14 +250,4 @@ module _ (graph : Graph) (well : IsWellFormed graph) where
       by None a e = absurd (none-some of e)
       by (Some adt) a e = of-body adt a adt.drop_body refl e
   drops-take-one None of e = absurd (none-some of e)
-  drops-take-one (Some (Ty.Int kind)) of e = absurd (none-some of e)
-  drops-take-one (Some Ty.Bool) of e = absurd (none-some of e)
-  drops-take-one (Some Ty.Unit) of e = absurd (none-some of e)
-  drops-take-one (Some Ty.Never) of e = absurd (none-some of e)
-  drops-take-one (Some (Ty.Tuple ts)) of e = absurd (none-some of e)
-  drops-take-one (Some (Ty.Array t c)) of e = absurd (none-some of e)
-  drops-take-one (Some (Ty.Boxed t)) of e = absurd (none-some of e)
-  drops-take-one (Some (Ty.Dyn k)) of e = absurd (none-some of e)
-  drops-take-one (Some (Ty.Shared t)) of e = absurd (none-some of e)
-  drops-take-one (Some (Ty.Unique t)) of e = absurd (none-some of e)
-  drops-take-one (Some (Ty.Closure k)) of e = absurd (none-some of e)
+  drops-take-one (Some other) of e = absurd (none-some of e)

@@ -324,10 +324,4 @@ module _ (items : ItemTable) (local_ty local_ty' : (body local : ℕ) → Option
       acting-Owed (Term.Virtual to trait_no method args next unwind) e f goes action a =
           subst (Acts (Term.Virtual to trait_no method args next unwind)) (some-same a)
           (virtual-Owed to trait_no method args next unwind e f goes)
-      acting-Owed (Term.Goto b) e f goes action a = absurd (none-some action a)
-      acting-Owed (Term.If on y other) e f goes action a = absurd (none-some action a)
-      acting-Owed (Term.Case on variant y other) e f goes action a = absurd (none-some action a)
-      acting-Owed (Term.DropAt place next unwind) e f goes action a = absurd (none-some action a)
-      acting-Owed (Term.Panic why unwind) e f goes action a = absurd (none-some action a)
-      acting-Owed Term.Return e f goes action a = absurd (none-some action a)
-      acting-Owed Term.Resume e f goes action a = absurd (none-some action a)
+      acting-Owed others e f goes action a = absurd (none-some action a)

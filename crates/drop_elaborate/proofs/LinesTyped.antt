@@ -63,16 +63,7 @@ module _ (items : ItemTable) (locals : List TyId) where
 named-content : (ty : Ty) (to : TyId) → type_named_by (Some ty) ≡ Some to → content_of ty ≡ Some to
 named-content (Ty.Shared t) to e = e
 named-content (Ty.Unique t) to e = e
-named-content (Ty.Int kind) to e = absurd (none-some to e)
-named-content Ty.Bool to e = absurd (none-some to e)
-named-content Ty.Unit to e = absurd (none-some to e)
-named-content Ty.Never to e = absurd (none-some to e)
-named-content (Ty.Adt n) to e = absurd (none-some to e)
-named-content (Ty.Tuple ts) to e = absurd (none-some to e)
-named-content (Ty.Array x c) to e = absurd (none-some to e)
-named-content (Ty.Boxed x) to e = absurd (none-some to e)
-named-content (Ty.Dyn n) to e = absurd (none-some to e)
-named-content (Ty.Closure n) to e = absurd (none-some to e)
+named-content other to e = absurd (none-some to e)
 
 -- a local of a reference type has one
 typed-reference : (o : Option Ty) (to : TyId) → type_named_by o ≡ Some to → (ty : Ty) × (o ≡ Some ty)

@@ -309,12 +309,7 @@ module _ (items : ItemTable) (local_ty : (body local : ℕ) → Option TyId) (nu
           (Address a ≡ Address b) ⊎ Contains (addresses_of rest) b
       by zero e = inl (ap Address (let x : a ≡ b = cc in x))
       by (suc k) e = inr (Contains-slice_get (addresses_of rest) k b e)
-  among-more Gone rest b c = inr c
-  among-more (Number x) rest b c = inr c
-  among-more (Truth x) rest b c = inr c
-  among-more UnitValue rest b c = inr c
-  among-more (Aggregate x y z) rest b c = inr c
-  among-more (Box x y z) rest b c = inr c
+  among-more other rest b c = inr c
 
   -- all operands of a line give full values of their types, and addresses at which values may come still
   pub operands-Took : (n line : ℕ) {operands : List Operand} {ids : List (Option TyId)} (are : OperandsAre operands ids)

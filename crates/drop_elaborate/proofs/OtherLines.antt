@@ -71,17 +71,7 @@ impl-of-adt items trait_no adt impl_no e =
 of-dyn : (trait_no : ℕ) (o : Option Ty) → is_dyn_of trait_no o ≡ true → is_dyn o ≡ true
 of-dyn trait_no None h = absurd (false≢true h)
 of-dyn trait_no (Some (Ty.Dyn n)) h = refl
-of-dyn trait_no (Some (Ty.Int kind)) h = absurd (false≢true h)
-of-dyn trait_no (Some Ty.Bool) h = absurd (false≢true h)
-of-dyn trait_no (Some Ty.Unit) h = absurd (false≢true h)
-of-dyn trait_no (Some Ty.Never) h = absurd (false≢true h)
-of-dyn trait_no (Some (Ty.Adt n)) h = absurd (false≢true h)
-of-dyn trait_no (Some (Ty.Tuple ts)) h = absurd (false≢true h)
-of-dyn trait_no (Some (Ty.Array t c)) h = absurd (false≢true h)
-of-dyn trait_no (Some (Ty.Boxed t)) h = absurd (false≢true h)
-of-dyn trait_no (Some (Ty.Shared t)) h = absurd (false≢true h)
-of-dyn trait_no (Some (Ty.Unique t)) h = absurd (false≢true h)
-of-dyn trait_no (Some (Ty.Closure n)) h = absurd (false≢true h)
+of-dyn trait_no (Some other) h = absurd (false≢true h)
 
 module _ (items : ItemTable) (local_ty : (body local : ℕ) → Option TyId) (number depth : ℕ) (body : Body)
     (addresses : List Addr) (before : State) (given : AllNameFull items local_ty before addresses)
@@ -156,12 +146,7 @@ module _ (items : ItemTable) (local_ty : (body local : ℕ) → Option TyId) (nu
         told (Number number) u e =
             subst (SameCells u) (let y : Go (with_event (Event.Printed number) u) ≡ Go x = e in
             let z : with_event (Event.Printed number) u ≡ x = cc in z) (told-cells raw (Event.Printed number) u)
-        told Gone u e = absurd (let y : Halts Stuck u ≡ Go x = e in cc)
-        told (Truth b) u e = absurd (let y : Halts Stuck u ≡ Go x = e in cc)
-        told UnitValue u e = absurd (let y : Halts Stuck u ≡ Go x = e in cc)
-        told (Aggregate a b c) u e = absurd (let y : Halts Stuck u ≡ Go x = e in cc)
-        told (Box a b c) u e = absurd (let y : Halts Stuck u ≡ Go x = e in cc)
-        told (Address a) u e = absurd (let y : Halts Stuck u ≡ Go x = e in cc)
+        told other u e = absurd (let y : Halts Stuck u ≡ Go x = e in cc)
 
     -- what a box becomes by the impl that is found for its content
     record Objected (v : Datum) (inner : Option ℕ) (trait_no : ℕ) (d : Datum) : Type 0 where
@@ -210,17 +195,7 @@ module _ (items : ItemTable) (local_ty : (body local : ℕ) → Option TyId) (nu
     adt-of-is : (o : Option Ty) (n : ℕ) → adt_of o ≡ Some n → o ≡ Some (Ty.Adt n)
     adt-of-is None n e = absurd (none-some n e)
     adt-of-is (Some (Ty.Adt m)) n e = ap (λ k. Some (Ty.Adt k)) (let y : Some m ≡ Some n = e in cc)
-    adt-of-is (Some (Ty.Int kind)) n e = absurd (none-some n e)
-    adt-of-is (Some Ty.Bool) n e = absurd (none-some n e)
-    adt-of-is (Some Ty.Unit) n e = absurd (none-some n e)
-    adt-of-is (Some Ty.Never) n e = absurd (none-some n e)
-    adt-of-is (Some (Ty.Tuple ts)) n e = absurd (none-some n e)
-    adt-of-is (Some (Ty.Array t c)) n e = absurd (none-some n e)
-    adt-of-is (Some (Ty.Boxed t)) n e = absurd (none-some n e)
-    adt-of-is (Some (Ty.Dyn k)) n e = absurd (none-some n e)
-    adt-of-is (Some (Ty.Shared t)) n e = absurd (none-some n e)
-    adt-of-is (Some (Ty.Unique t)) n e = absurd (none-some n e)
-    adt-of-is (Some (Ty.Closure k)) n e = absurd (none-some n e)
+    adt-of-is (Some other) n e = absurd (none-some n e)
 
     -- a box becomes one of a trait
     pub unsize-line : (to : graph.Place) (trait_no : ℕ) (from : Operand) (id content start inner : TyId)

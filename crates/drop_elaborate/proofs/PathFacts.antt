@@ -145,14 +145,9 @@ module _ (items : ItemTable) (body : Body) where
 
       filled-so : (how : PlaceUse) → IsFilled how → checked items body acts action how ≡ [] →
           may_not_store items body acts action.place ≡ false
-      filled-so Copies i h = absurd i
-      filled-so Moves i h = absurd i
-      filled-so Borrows i h = absurd i
-      filled-so Touches i h = absurd i
-      filled-so Tests i h = absurd i
       filled-so Stores i h = bad-not (may_not_store items body acts action.place) U2 h
       filled-so Drops i h = bad-not (may_not_store items body acts action.place) U2 h
-      filled-so Frees i h = absurd i
+      filled-so other i h = absurd i
 
       pub has-containers : IsFilled action.how → HasContainers
       has-containers i =

@@ -70,19 +70,7 @@ module _ (items : ItemTable) (alone : references_stand_alone items ≡ true) (bo
                 ∙ ap (λ c. c && are_first (named to).steps [] && are_first [] (named to).steps)
                 (sym ((Decides-eqb to.local to.local).1 refl)) ∙ e) in
                 omega (arith, one)
-    made-stored (Stmt.Put to from) = omega arith
-    made-stored (Stmt.Compare to op left right) = omega arith
-    made-stored (Stmt.Not to operand) = omega arith
-    made-stored (Stmt.Tuple to parts) = omega arith
-    made-stored (Stmt.Array to parts) = omega arith
-    made-stored (Stmt.Make to adt variant parts) = omega arith
-    made-stored (Stmt.Close to closure parts) = omega arith
-    made-stored (Stmt.NewBox to operand) = omega arith
-    made-stored (Stmt.Unsize to trait_no from) = omega arith
-    made-stored (Stmt.Touch at) = omega arith
-    made-stored (Stmt.Print operand) = omega arith
-    made-stored (Stmt.Forget operand) = omega arith
-    made-stored (Stmt.Free at) = omega arith
+    made-stored other = omega arith
 
     times-made : times_made items body k ≡ total (λ (block : Block). total made_s block.stmts) body.blocks
     times-made =

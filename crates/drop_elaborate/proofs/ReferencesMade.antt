@@ -58,31 +58,11 @@ module _ (items : ItemTable) (alone : references_stand_alone items ≡ true) (bo
       (ty : Ty) × (o ≡ Some ty) × (is_reference (Some ty) ≡ true) × (content_of ty ≡ Some to)
       × (type_named_by (Some ty) ≡ Some to)
   referent-is false None to e = absurd (none-some to e)
-  referent-is false (Some (Ty.Int kind)) to e = absurd (none-some to e)
-  referent-is false (Some Ty.Bool) to e = absurd (none-some to e)
-  referent-is false (Some Ty.Unit) to e = absurd (none-some to e)
-  referent-is false (Some Ty.Never) to e = absurd (none-some to e)
-  referent-is false (Some (Ty.Adt n)) to e = absurd (none-some to e)
-  referent-is false (Some (Ty.Tuple ts)) to e = absurd (none-some to e)
-  referent-is false (Some (Ty.Array t c)) to e = absurd (none-some to e)
-  referent-is false (Some (Ty.Boxed t)) to e = absurd (none-some to e)
-  referent-is false (Some (Ty.Dyn n)) to e = absurd (none-some to e)
-  referent-is false (Some (Ty.Closure n)) to e = absurd (none-some to e)
-  referent-is false (Some (Ty.Unique t)) to e = absurd (none-some to e)
   referent-is true None to e = absurd (none-some to e)
-  referent-is true (Some (Ty.Int kind)) to e = absurd (none-some to e)
-  referent-is true (Some Ty.Bool) to e = absurd (none-some to e)
-  referent-is true (Some Ty.Unit) to e = absurd (none-some to e)
-  referent-is true (Some Ty.Never) to e = absurd (none-some to e)
-  referent-is true (Some (Ty.Adt n)) to e = absurd (none-some to e)
-  referent-is true (Some (Ty.Tuple ts)) to e = absurd (none-some to e)
-  referent-is true (Some (Ty.Array t c)) to e = absurd (none-some to e)
-  referent-is true (Some (Ty.Boxed t)) to e = absurd (none-some to e)
-  referent-is true (Some (Ty.Dyn n)) to e = absurd (none-some to e)
-  referent-is true (Some (Ty.Closure n)) to e = absurd (none-some to e)
-  referent-is true (Some (Ty.Shared t)) to e = absurd (none-some to e)
   referent-is false (Some (Ty.Shared t)) to e = (Ty.Shared t, refl, refl, e, e)
   referent-is true (Some (Ty.Unique t)) to e = (Ty.Unique t, refl, refl, e, e)
+  referent-is false (Some other) to e = absurd (none-some to e)
+  referent-is true (Some other) to e = absurd (none-some to e)
 
   pub record BorrowTyped (to of : graph.Place) : Type 0 where
     pub id : TyId
@@ -191,19 +171,7 @@ module _ (items : ItemTable) (alone : references_stand_alone items ≡ true) (bo
                 names = ap (λ (x : ℕ × Place). x.1) (let z : Some (to.local, named of) ≡ Some one = f in
                     let y : (to.local, named of) ≡ one = cc in y) ∙ p;
               }
-      in-stmt n line block (Stmt.Put to from) one b s f p = absurd (none-some one f)
-      in-stmt n line block (Stmt.Compare to op left right) one b s f p = absurd (none-some one f)
-      in-stmt n line block (Stmt.Not to operand) one b s f p = absurd (none-some one f)
-      in-stmt n line block (Stmt.Tuple to parts) one b s f p = absurd (none-some one f)
-      in-stmt n line block (Stmt.Array to parts) one b s f p = absurd (none-some one f)
-      in-stmt n line block (Stmt.Make to adt variant parts) one b s f p = absurd (none-some one f)
-      in-stmt n line block (Stmt.Close to closure parts) one b s f p = absurd (none-some one f)
-      in-stmt n line block (Stmt.NewBox to operand) one b s f p = absurd (none-some one f)
-      in-stmt n line block (Stmt.Unsize to trait_no from) one b s f p = absurd (none-some one f)
-      in-stmt n line block (Stmt.Touch at) one b s f p = absurd (none-some one f)
-      in-stmt n line block (Stmt.Print operand) one b s f p = absurd (none-some one f)
-      in-stmt n line block (Stmt.Forget operand) one b s f p = absurd (none-some one f)
-      in-stmt n line block (Stmt.Free at) one b s f p = absurd (none-some one f)
+      in-stmt n line block other one b s f p = absurd (none-some one f)
 
       by : (o : Option (ℕ × Place)) → find is_it (references_made body) ≡ o →
           option_map_or (λ (one : ℕ × Place). Some one.1) o None ≡ Some place → Making k place

@@ -180,19 +180,7 @@ module _ (items : ItemTable) (local_ty local_ty' : (body local : ℕ) → Option
     -- no statement calls a body
     pub stmt-may : (stmt : Stmt) (w : State) → May (action_of 0 stmt) w
     stmt-may (Stmt.Put to from) w = tt
-    stmt-may (Stmt.Compare to op left right) w = tt
-    stmt-may (Stmt.Not to operand) w = tt
-    stmt-may (Stmt.Tuple to parts) w = tt
-    stmt-may (Stmt.Array to parts) w = tt
-    stmt-may (Stmt.Make to adt variant parts) w = tt
-    stmt-may (Stmt.Close to closure parts) w = tt
-    stmt-may (Stmt.NewBox to operand) w = tt
-    stmt-may (Stmt.Unsize to trait_no from) w = tt
-    stmt-may (Stmt.Borrow to unique of) w = tt
-    stmt-may (Stmt.Touch place) w = tt
-    stmt-may (Stmt.Print operand) w = tt
-    stmt-may (Stmt.Forget operand) w = tt
-    stmt-may (Stmt.Free place) w = tt
+    stmt-may other w = tt
 
     -- the actions of terminators
     pub math-ok : (to : graph.Place) (op : Math) (left right : Operand) → IsTyped to → AllTyped (left ∷ right ∷ []) →

@@ -132,44 +132,19 @@ module _ (items : ItemTable) (alone : references_stand_alone items ≡ true) whe
       (inside-free id element (Ty.Array element count) 0 is refl)
   part-free id next (Ty.Closure n) variant k is e = capture-free n k next (one-variant (variant == 0)
       (captures_of (slice_get items.closures n)) k next e)
-  part-free id next (Ty.Int kind) variant k is e = absurd (none-some next e)
-  part-free id next Ty.Bool variant k is e = absurd (none-some next e)
-  part-free id next Ty.Unit variant k is e = absurd (none-some next e)
-  part-free id next Ty.Never variant k is e = absurd (none-some next e)
-  part-free id next (Ty.Boxed t) variant k is e = absurd (none-some next e)
-  part-free id next (Ty.Dyn n) variant k is e = absurd (none-some next e)
-  part-free id next (Ty.Shared t) variant k is e = absurd (none-some next e)
-  part-free id next (Ty.Unique t) variant k is e = absurd (none-some next e)
+  part-free id next other variant k is e = absurd (none-some next e)
 
   content-free : (id next : TyId) (ty : Ty) → type_at items id ≡ Some ty → content_of ty ≡ Some next →
       is_reference (type_at items next) ≡ false
   content-free id next (Ty.Boxed t) is e = inside-free id next (Ty.Boxed t) 0 is e
   content-free id next (Ty.Shared t) is e = inside-free id next (Ty.Shared t) 0 is e
   content-free id next (Ty.Unique t) is e = inside-free id next (Ty.Unique t) 0 is e
-  content-free id next (Ty.Adt n) is e = absurd (none-some next e)
-  content-free id next (Ty.Tuple parts) is e = absurd (none-some next e)
-  content-free id next (Ty.Array element count) is e = absurd (none-some next e)
-  content-free id next (Ty.Closure n) is e = absurd (none-some next e)
-  content-free id next (Ty.Int kind) is e = absurd (none-some next e)
-  content-free id next Ty.Bool is e = absurd (none-some next e)
-  content-free id next Ty.Unit is e = absurd (none-some next e)
-  content-free id next Ty.Never is e = absurd (none-some next e)
-  content-free id next (Ty.Dyn n) is e = absurd (none-some next e)
+  content-free id next other is e = absurd (none-some next e)
 
   element-free : (id next : TyId) (ty : Ty) → type_at items id ≡ Some ty → element_of ty ≡ Some next →
       is_reference (type_at items next) ≡ false
   element-free id next (Ty.Array element count) is e = inside-free id next (Ty.Array element count) 0 is e
-  element-free id next (Ty.Boxed t) is e = absurd (none-some next e)
-  element-free id next (Ty.Shared t) is e = absurd (none-some next e)
-  element-free id next (Ty.Unique t) is e = absurd (none-some next e)
-  element-free id next (Ty.Adt n) is e = absurd (none-some next e)
-  element-free id next (Ty.Tuple parts) is e = absurd (none-some next e)
-  element-free id next (Ty.Closure n) is e = absurd (none-some next e)
-  element-free id next (Ty.Int kind) is e = absurd (none-some next e)
-  element-free id next Ty.Bool is e = absurd (none-some next e)
-  element-free id next Ty.Unit is e = absurd (none-some next e)
-  element-free id next Ty.Never is e = absurd (none-some next e)
-  element-free id next (Ty.Dyn n) is e = absurd (none-some next e)
+  element-free id next other is e = absurd (none-some next e)
 
   unless-some : (b : Bool) (o : Option TyId) (next : TyId) → unless_enum b o ≡ Some next → o ≡ Some next
   unless-some false o next e = e
@@ -319,13 +294,4 @@ module _ (items : ItemTable) (alone : references_stand_alone items ≡ true) whe
                 of (Some (Ty.Unique to)) t r = behind-it to (Ty.Unique to) t refl
                     (λ step next g. unique-only to step next g) place.steps refl e
                 of None t r = absurd (false≢true r)
-                of (Some (Ty.Int kind)) t r = absurd (false≢true r)
-                of (Some Ty.Bool) t r = absurd (false≢true r)
-                of (Some Ty.Unit) t r = absurd (false≢true r)
-                of (Some Ty.Never) t r = absurd (false≢true r)
-                of (Some (Ty.Adt n)) t r = absurd (false≢true r)
-                of (Some (Ty.Tuple ts)) t r = absurd (false≢true r)
-                of (Some (Ty.Array x c)) t r = absurd (false≢true r)
-                of (Some (Ty.Boxed x)) t r = absurd (false≢true r)
-                of (Some (Ty.Dyn n)) t r = absurd (false≢true r)
-                of (Some (Ty.Closure n)) t r = absurd (false≢true r)
+                of (Some other) t r = absurd (false≢true r)

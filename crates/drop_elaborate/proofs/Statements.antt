@@ -103,13 +103,7 @@ module _ (items : ItemTable) (local_ty local_ty' : (body local : ℕ) → Option
       stuck-unplaced : (halt : Halt) → IsStuck halt → IsStuck (unplaced halt)
       stuck-unplaced Stuck h = tt
       stuck-unplaced (StuckAt b n) h = tt
-      stuck-unplaced Aborted h = h
-      stuck-unplaced OutOfTicks h = h
-      stuck-unplaced (BadUse site) h = h
-      stuck-unplaced (BadStore site) h = h
-      stuck-unplaced NoChoice h = h
-      stuck-unplaced Infeasible h = h
-      stuck-unplaced Unreachable h = h
+      stuck-unplaced other h = h
 
       pub stmts-Same : (block line : ℕ) (stmts : List Stmt) (acts : List PathAction) (line' : ℕ)
           (more : List Stmt) (rest rest' : State → Out State) (w w' : State) →

@@ -237,12 +237,7 @@ module _ (items : ItemTable) (local_ty : (body local : ℕ) → Option TyId) (nu
 
   negated-truth : (v d : Datum) → negated raw v ≡ Some d → (b : Bool) × (d ≡ Truth b)
   negated-truth (Truth b) d e = (not b, (let x : Some (Truth (not b)) ≡ Some d = e in cc))
-  negated-truth Gone d e = absurd (none-some d e)
-  negated-truth (Number x) d e = absurd (none-some d e)
-  negated-truth UnitValue d e = absurd (none-some d e)
-  negated-truth (Aggregate x y z) d e = absurd (none-some d e)
-  negated-truth (Box x y z) d e = absurd (none-some d e)
-  negated-truth (Address x) d e = absurd (none-some d e)
+  negated-truth other d e = absurd (none-some d e)
 
   truth-of : (o : Option Bool) (d : Datum) → option_map_or (λ t. Some (Truth t)) o None ≡ Some d →
       (b : Bool) × (d ≡ Truth b)

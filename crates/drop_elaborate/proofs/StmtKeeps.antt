@@ -257,17 +257,7 @@ module _ (items : ItemTable) (local_ty : (body local : ℕ) → Option TyId) (nu
             (to ∷ []) [] t) (elements-are items body element count parts h)
             (an_array s.id element count te) f e
         by s t None te h = absurd (false≢true h)
-        by s t (Some (Ty.Int kind)) te h = absurd (false≢true h)
-        by s t (Some Ty.Bool) te h = absurd (false≢true h)
-        by s t (Some Ty.Unit) te h = absurd (false≢true h)
-        by s t (Some Ty.Never) te h = absurd (false≢true h)
-        by s t (Some (Ty.Adt k)) te h = absurd (false≢true h)
-        by s t (Some (Ty.Tuple ts)) te h = absurd (false≢true h)
-        by s t (Some (Ty.Boxed b)) te h = absurd (false≢true h)
-        by s t (Some (Ty.Dyn k)) te h = absurd (false≢true h)
-        by s t (Some (Ty.Shared b)) te h = absurd (false≢true h)
-        by s t (Some (Ty.Unique b)) te h = absurd (false≢true h)
-        by s t (Some (Ty.Closure k)) te h = absurd (false≢true h)
+        by s t (Some other) te h = absurd (false≢true h)
 
     make-keeps : (to : graph.Place) (adt variant : ℕ) (parts : List Operand) → Keeps (Stmt.Make to adt variant parts)
     make-keeps to adt variant parts here f e =

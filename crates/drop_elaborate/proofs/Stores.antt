@@ -69,18 +69,9 @@ element-not-watched items _ rest index _ array (to_next (ToElement i) steps id n
 
 pub named-reference : (o : Option Ty) (to : TyId) → named_by o ≡ Some to → is_reference o ≡ true
 named-reference None to e = absurd (none-some to e)
-named-reference (Some (Ty.Int kind)) to e = absurd (none-some to e)
-named-reference (Some Ty.Bool) to e = absurd (none-some to e)
-named-reference (Some Ty.Unit) to e = absurd (none-some to e)
-named-reference (Some Ty.Never) to e = absurd (none-some to e)
-named-reference (Some (Ty.Adt n)) to e = absurd (none-some to e)
-named-reference (Some (Ty.Tuple ts)) to e = absurd (none-some to e)
-named-reference (Some (Ty.Array x c)) to e = absurd (none-some to e)
-named-reference (Some (Ty.Boxed x)) to e = absurd (none-some to e)
-named-reference (Some (Ty.Dyn n)) to e = absurd (none-some to e)
 named-reference (Some (Ty.Shared t)) to e = refl
 named-reference (Some (Ty.Unique t)) to e = refl
-named-reference (Some (Ty.Closure n)) to e = absurd (none-some to e)
+named-reference (Some other) to e = absurd (none-some to e)
 
 pub plain-no-reference : {items : ItemTable} (rest : List Step) (id end : TyId) →
     PlainSteps items (ToContent ∷ rest) id end → is_reference (type_at items id) ≡ true → ⊥

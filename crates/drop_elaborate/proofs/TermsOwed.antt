@@ -203,18 +203,7 @@ module _ (items : ItemTable) (local_ty local_ty' : (body local : ℕ) → Option
           (variant-Same items local_ty local_ty' extends flags depth number most (site_of 0 on) variant w v'
           (record { like = like; deep = a.deep; number_is = a.number_is; few = a.few })
           (index_here on (only (is_typed_place items body.locals on) l.others_typed)))
-      same-of (Term.Goto b) e w w' a test t flags v' like = absurd (none-some test t)
-      same-of (Term.Math to op left right next unwind) e w w' a test t flags v' like = absurd (none-some test t)
-      same-of (Term.Negate to of next unwind) e w w' a test t flags v' like = absurd (none-some test t)
-      same-of (Term.Bounds index count next unwind) e w w' a test t flags v' like = absurd (none-some test t)
-      same-of (Term.Ask to next unwind) e w w' a test t flags v' like = absurd (none-some test t)
-      same-of (Term.Call to callee args next unwind) e w w' a test t flags v' like = absurd (none-some test t)
-      same-of (Term.Virtual to trait_no method args next unwind) e w w' a test t flags v' like = absurd (none-some
-          test t)
-      same-of (Term.DropAt place next unwind) e w w' a test t flags v' like = absurd (none-some test t)
-      same-of (Term.Panic why unwind) e w w' a test t flags v' like = absurd (none-some test t)
-      same-of Term.Return e w w' a test t flags v' like = absurd (none-some test t)
-      same-of Term.Resume e w w' a test t flags v' like = absurd (none-some test t)
+      same-of other e w w' a test t flags v' like = absurd (none-some test t)
 
       tested-of : (term : Term) → block.term ≡ term → Comes term → (w w' : State) → AtHere done w w' → (test : Test) →
           TestOf term ≡ Some test → (v : State) → (choose raw test w ≡ Yes v) ⊎ (choose raw test w ≡ No v) →
@@ -228,17 +217,7 @@ module _ (items : ItemTable) (local_ty local_ty' : (body local : ℕ) → Option
           No v))
           (let x : Some (effects.HasVariant (site_of 0 on) variant) ≡ Some test = t in
           let y : test ≡ effects.HasVariant (site_of 0 on) variant = cc in y) c)
-      tested-of (Term.Goto b) e f w w' a test t v c = absurd (none-some test t)
-      tested-of (Term.Math to op left right next unwind) e f w w' a test t v c = absurd (none-some test t)
-      tested-of (Term.Negate to of next unwind) e f w w' a test t v c = absurd (none-some test t)
-      tested-of (Term.Bounds index count next unwind) e f w w' a test t v c = absurd (none-some test t)
-      tested-of (Term.Ask to next unwind) e f w w' a test t v c = absurd (none-some test t)
-      tested-of (Term.Call to callee args next unwind) e f w w' a test t v c = absurd (none-some test t)
-      tested-of (Term.Virtual to trait_no method args next unwind) e f w w' a test t v c = absurd (none-some test t)
-      tested-of (Term.DropAt place next unwind) e f w w' a test t v c = absurd (none-some test t)
-      tested-of (Term.Panic why unwind) e f w w' a test t v c = absurd (none-some test t)
-      tested-of Term.Return e f w w' a test t v c = absurd (none-some test t)
-      tested-of Term.Resume e f w w' a test t v c = absurd (none-some test t)
+      tested-of other e f w w' a test t v c = absurd (none-some test t)
 
       -- a panic that a graph starts tells of itself in both runs
       panicking-of : (w : State) (why : Why) (v' : State) → AtHere done w v' →

@@ -17,14 +17,7 @@ use Rattle.drop_elaborate.proofs.Walks.{unplaced, Walks}
 
 stuck_unplaced : (number block : ℕ) (halt : Halt) → unplaced (stuck_in number block halt) ≡ unplaced halt
 stuck_unplaced number block Aborted = refl
-stuck_unplaced number block OutOfTicks = refl
-stuck_unplaced number block Stuck = refl
-stuck_unplaced number block (StuckAt other at) = refl
-stuck_unplaced number block (BadUse site) = refl
-stuck_unplaced number block (BadStore site) = refl
-stuck_unplaced number block NoChoice = refl
-stuck_unplaced number block Infeasible = refl
-stuck_unplaced number block Unreachable = refl
+stuck_unplaced number block others = refl
 
 module _ {W : Type 0} (number at : ℕ) where
   go_renamed : (o : Out W) (f : W → Out W) → renamed unplaced (◌>>=◌ (renamed (stuck_in number at) o) f) ≡ ◌>>=◌

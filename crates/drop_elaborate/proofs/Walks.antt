@@ -24,13 +24,7 @@ unplaced Unreachable = Unreachable
 pub stuck-unplaced : (halt : Halt) → IsStuck halt → IsStuck (unplaced halt)
 stuck-unplaced Stuck h = tt
 stuck-unplaced (StuckAt b n) h = tt
-stuck-unplaced Aborted h = h
-stuck-unplaced OutOfTicks h = h
-stuck-unplaced (BadUse site) h = h
-stuck-unplaced (BadStore site) h = h
-stuck-unplaced NoChoice h = h
-stuck-unplaced Infeasible h = h
-stuck-unplaced Unreachable h = h
+stuck-unplaced other h = h
 
 -- what the walk of a body does from a block on, by what its block does
 pub record Walks {W : Type 0} (q : Effects W) (size : W → ℕ) (bound : ℕ) (body : Body) (node : ℕ → ℕ → ℕ)

@@ -244,13 +244,6 @@ module _ (items : ItemTable) (local_ty local_ty' : (body local : ℕ) → Option
           →
           Way (called raw run to (virtual_body raw trait_no method u vs) vs u)
           (called strict run' to (virtual_body strict trait_no method u' vs) vs u')
-      virtual-Same to trait_no method [] u u' b ok may = inl tt
-      virtual-Same to trait_no method (Gone ∷ vs) u u' b ok may = inl tt
-      virtual-Same to trait_no method (Number x ∷ vs) u u' b ok may = inl tt
-      virtual-Same to trait_no method (Truth x ∷ vs) u u' b ok may = inl tt
-      virtual-Same to trait_no method (UnitValue ∷ vs) u u' b ok may = inl tt
-      virtual-Same to trait_no method (Aggregate v s ps ∷ vs) u u' b ok may = inl tt
-      virtual-Same to trait_no method (Box s i d ∷ vs) u u' b ok may = inl tt
       virtual-Same to trait_no method (Address a ∷ vs) u u' b ok may = by (located_at raw u a) refl
         where
           body_in : Option Located → Option ℕ
@@ -271,6 +264,7 @@ module _ (items : ItemTable) (local_ty local_ty' : (body local : ℕ) → Option
               let t = there items local_ty local_ty' extends flags u u' a s b.like h in
               enters (object_body raw trait_no method s.dynamic) (ap body_in h)
               (ap (λ o. option_and_then (λ (s : Located). object_body strict trait_no method s.dynamic) o) t.stands)
+      virtual-Same to trait_no method other u u' b ok may = inl tt
 
       pub acted-Same : (action : effects.Action) (w w' : State) → Both most w w' → ActionOk action →
           MayCall action w → Way (acted raw run action w) (acted strict run' action w')

@@ -116,18 +116,8 @@ module _ (items : ItemTable) where
                 (subst (λ v. Leads path m.dynamic (presence_at ToContent p) v t.dynamic r.presence t.value)
                 v r.leads);
           }
-      first (Part n) Gone m i again = absurd (none-some i.value i.value_is)
-      first (Part n) (Number x) m i again = absurd (none-some i.value i.value_is)
-      first (Part n) (Truth x) m i again = absurd (none-some i.value i.value_is)
-      first (Part n) UnitValue m i again = absurd (none-some i.value i.value_is)
-      first (Part n) (Box x y z) m i again = absurd (none-some i.value i.value_is)
-      first (Part n) (Address x) m i again = absurd (none-some i.value i.value_is)
-      first Inside Gone m i again = absurd (none-some i.value i.value_is)
-      first Inside (Number x) m i again = absurd (none-some i.value i.value_is)
-      first Inside (Truth x) m i again = absurd (none-some i.value i.value_is)
-      first Inside UnitValue m i again = absurd (none-some i.value i.value_is)
-      first Inside (Aggregate x y z) m i again = absurd (none-some i.value i.value_is)
-      first Inside (Address x) m i again = absurd (none-some i.value i.value_is)
+      first (Part n) other m i again = absurd (none-some i.value i.value_is)
+      first Inside other m i again = absurd (none-some i.value i.value_is)
 
 module _ (setting : Setting) (number depth : ℕ) where
   -- wherever the address leads within a local of the body, all is known as present there

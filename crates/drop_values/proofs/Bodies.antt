@@ -311,13 +311,7 @@ module _ (items : ItemTable) (local_ty local_ty' : (body local : ℕ) → Option
             × ((block : ℕ) × (end_of_halt halt ≡ End.Stuck body block))
         stuck_ends Stuck s = (0, (0, refl))
         stuck_ends (StuckAt body block) s = (body, (block, refl))
-        stuck_ends Aborted s = elim s [ ]
-        stuck_ends OutOfTicks s = elim s [ ]
-        stuck_ends (BadUse site) s = elim s [ ]
-        stuck_ends (BadStore site) s = elim s [ ]
-        stuck_ends NoChoice s = elim s [ ]
-        stuck_ends Infeasible s = elim s [ ]
-        stuck_ends Unreachable s = elim s [ ]
+        stuck_ends other s = elim s [ ]
 
         by : (a : Answer) → SameAnswer local_ty (λ d k. Gone) a
             (run_body strict code' (suc ticks) (Event.Call main) main [] (beginning asked ticks)) →

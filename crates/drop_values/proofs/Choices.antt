@@ -48,12 +48,7 @@ module _ (items : ItemTable) (local_ty local_ty' : (body local : ℕ) → Option
             (chosen_truth strict (Some (v, u')) w')
         chosen (Truth true) u u' c = (u', refl, c.like)
         chosen (Truth false) u u' c = (u', refl, c.like)
-        chosen Gone u u' c = inl tt
-        chosen (Number x) u u' c = inl tt
-        chosen UnitValue u u' c = inl tt
-        chosen (Aggregate v s ps) u u' c = inl tt
-        chosen (Box s i d) u u' c = inl tt
-        chosen (Address a) u u' c = inl tt
+        chosen other u u' c = inl tt
 
         by : (o : Option (Datum × State)) → evaluate_operand raw operand w ≡ o → ChoiceWay (chosen_truth raw o w)
             (chosen_truth strict (evaluate_operand strict operand w') w')
@@ -75,12 +70,7 @@ module _ (items : ItemTable) (local_ty local_ty' : (body local : ℕ) → Option
         tested (Aggregate active serial parts) other c =
             subst (λ o. ChoiceWay (chosen_if raw (variant == active) w) (variant_tested strict variant o w'))
             (sym c.1) (if-Same (variant == active))
-        tested Gone other c = inl tt
-        tested (Number x) other c = inl tt
-        tested (Truth x) other c = inl tt
-        tested UnitValue other c = inl tt
-        tested (Box s i d) other c = inl tt
-        tested (Address a) other c = inl tt
+        tested others other c = inl tt
 
         by : (r : Reached) → reach raw w site.place ≡ r →
             ChoiceWay (on_reached r (λ s. variant_tested raw variant s.value w) (Neither Stuck w) (Neither Stuck w))

@@ -76,12 +76,7 @@ module _ (setting : Setting) (w : State) (cells : Cells) where
   field-not-cut : (v n : ℕ) (d : Datum) (s : Located) → into_field setting w cells v n d s ≡ CutOff → ⊥
   field-not-cut v n (Aggregate active serial parts) s e =
       if-not-cut (v == active) (into setting.items (Part n) s) e
-  field-not-cut v n Gone s e = cc
-  field-not-cut v n (Number x) s e = cc
-  field-not-cut v n (Truth x) s e = cc
-  field-not-cut v n UnitValue s e = cc
-  field-not-cut v n (Box x y z) s e = cc
-  field-not-cut v n (Address x) s e = cc
+  field-not-cut v n other s e = cc
 
   content-not-cut : (d : Datum) (s : Located) → through setting w cells d s ≡ CutOff → ⊥
   content-not-cut (Address a) s e =
@@ -95,13 +90,7 @@ module _ (setting : Setting) (w : State) (cells : Cells) where
 
   element-not-cut : (d : Datum) (s : Located) → into_element setting w cells d s ≡ CutOff → ⊥
   element-not-cut (Number (pos n)) s e = of-not-cut (into setting.items (Part n) s) e
-  element-not-cut (Number (negsuc n)) s e = cc
-  element-not-cut Gone s e = cc
-  element-not-cut (Truth x) s e = cc
-  element-not-cut UnitValue s e = cc
-  element-not-cut (Aggregate x y z) s e = cc
-  element-not-cut (Box x y z) s e = cc
-  element-not-cut (Address x) s e = cc
+  element-not-cut other s e = cc
 
   follow-not-cut : (step : Step) (s : Located) → follow setting w cells step s ≡ CutOff → ⊥
   follow-not-cut (ToPart n) s e = of-not-cut (into setting.items (Part n) s) e
@@ -112,12 +101,7 @@ module _ (setting : Setting) (w : State) (cells : Cells) where
   -- only below what is gone
   pub cut-gone : (step : Step) (d : Datum) (s : Located) → follow_from setting w cells step d s ≡ CutOff → d ≡ Gone
   cut-gone step Gone s e = refl
-  cut-gone step (Number x) s e = absurd (follow-not-cut step s e)
-  cut-gone step (Truth x) s e = absurd (follow-not-cut step s e)
-  cut-gone step UnitValue s e = absurd (follow-not-cut step s e)
-  cut-gone step (Aggregate x y z) s e = absurd (follow-not-cut step s e)
-  cut-gone step (Box x y z) s e = absurd (follow-not-cut step s e)
-  cut-gone step (Address x) s e = absurd (follow-not-cut step s e)
+  cut-gone step other s e = absurd (follow-not-cut step s e)
 
 module _ (items : ItemTable) (local_ty : (body local : ℕ) → Option TyId) (w : State) (cells : Cells) where
   abbrev raw : Setting

@@ -33,35 +33,15 @@ module _ (items : ItemTable) where
   pub boxed-is : (o : Option Ty) (content : TyId) (impl_no : Option ℕ) (f : DynamicType) →
       box_content o ≡ Some content → type_in_box impl_no o ≡ Some f → f ≡ content_type content impl_no
   boxed-is None content impl_no f e h = absurd (none-some content e)
-  boxed-is (Some (Ty.Int kind)) content impl_no f e h = absurd (none-some content e)
-  boxed-is (Some Ty.Bool) content impl_no f e h = absurd (none-some content e)
-  boxed-is (Some Ty.Unit) content impl_no f e h = absurd (none-some content e)
-  boxed-is (Some Ty.Never) content impl_no f e h = absurd (none-some content e)
-  boxed-is (Some (Ty.Adt k)) content impl_no f e h = absurd (none-some content e)
-  boxed-is (Some (Ty.Tuple ts)) content impl_no f e h = absurd (none-some content e)
-  boxed-is (Some (Ty.Array t c)) content impl_no f e h = absurd (none-some content e)
   boxed-is (Some (Ty.Boxed t)) content impl_no f e h = let x : Some (content_type t impl_no) ≡ Some f =
       h in let y : content_type t impl_no ≡ f = cc in let z : Some t ≡ Some content = e in let c : t ≡ content =
       cc in sym y ∙ ap (λ t. content_type t impl_no) c
-  boxed-is (Some (Ty.Dyn k)) content impl_no f e h = absurd (none-some content e)
-  boxed-is (Some (Ty.Shared t)) content impl_no f e h = absurd (none-some content e)
-  boxed-is (Some (Ty.Unique t)) content impl_no f e h = absurd (none-some content e)
-  boxed-is (Some (Ty.Closure k)) content impl_no f e h = absurd (none-some content e)
+  boxed-is (Some other) content impl_no f e h = absurd (none-some content e)
 
   pub dyn-is : (o : Option Ty) → is_dyn o ≡ true → (n : ℕ) × (o ≡ Some (Ty.Dyn n))
   dyn-is None e = absurd (false≢true e)
-  dyn-is (Some (Ty.Int kind)) e = absurd (false≢true e)
-  dyn-is (Some Ty.Bool) e = absurd (false≢true e)
-  dyn-is (Some Ty.Unit) e = absurd (false≢true e)
-  dyn-is (Some Ty.Never) e = absurd (false≢true e)
-  dyn-is (Some (Ty.Adt k)) e = absurd (false≢true e)
-  dyn-is (Some (Ty.Tuple ts)) e = absurd (false≢true e)
-  dyn-is (Some (Ty.Array t c)) e = absurd (false≢true e)
-  dyn-is (Some (Ty.Boxed t)) e = absurd (false≢true e)
   dyn-is (Some (Ty.Dyn k)) e = (k, refl)
-  dyn-is (Some (Ty.Shared t)) e = absurd (false≢true e)
-  dyn-is (Some (Ty.Unique t)) e = absurd (false≢true e)
-  dyn-is (Some (Ty.Closure k)) e = absurd (false≢true e)
+  dyn-is (Some other) e = absurd (false≢true e)
 
   pub content-proper : (content : TyId) (impl_no : Option ℕ) → is_some impl_no ≡ is_dyn (type_at items content) →
       has_impl items (type_at items content) impl_no ≡ true → Proper items (content_type content impl_no)

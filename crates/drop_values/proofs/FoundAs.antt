@@ -55,17 +55,7 @@ module _ (items : ItemTable) where
           (option_map_or (λ adt. adt.drop_body) o None) ≡ None
       by None e = refl
       by (Some adt) e = ap (with_drop_body n) (impl_or_none adt.drop_body e)
-  no_impl (Some (Ty.Int kind)) e = refl
-  no_impl (Some Ty.Bool) e = refl
-  no_impl (Some Ty.Unit) e = refl
-  no_impl (Some Ty.Never) e = refl
-  no_impl (Some (Ty.Tuple ts)) e = refl
-  no_impl (Some (Ty.Array t c)) e = refl
-  no_impl (Some (Ty.Boxed t)) e = refl
-  no_impl (Some (Ty.Dyn n)) e = refl
-  no_impl (Some (Ty.Shared t)) e = refl
-  no_impl (Some (Ty.Unique t)) e = refl
-  no_impl (Some (Ty.Closure n)) e = refl
+  no_impl (Some other) e = refl
 
   -- one with a `Drop` impl is a struct or an enum, and has one
   pub record HasImpl (o : Option Ty) : Type 0 where
@@ -92,17 +82,7 @@ module _ (items : ItemTable) where
             impl_is =
                 ap (λ o. with_drop_body n (option_map_or (λ adt. adt.drop_body) o None)) h ∙ ap (with_drop_body n) b.1;
           }
-  has_impl_of (Some (Ty.Int kind)) e = absurd (false≢true e)
-  has_impl_of (Some Ty.Bool) e = absurd (false≢true e)
-  has_impl_of (Some Ty.Unit) e = absurd (false≢true e)
-  has_impl_of (Some Ty.Never) e = absurd (false≢true e)
-  has_impl_of (Some (Ty.Tuple ts)) e = absurd (false≢true e)
-  has_impl_of (Some (Ty.Array t c)) e = absurd (false≢true e)
-  has_impl_of (Some (Ty.Boxed t)) e = absurd (false≢true e)
-  has_impl_of (Some (Ty.Dyn n)) e = absurd (false≢true e)
-  has_impl_of (Some (Ty.Shared t)) e = absurd (false≢true e)
-  has_impl_of (Some (Ty.Unique t)) e = absurd (false≢true e)
-  has_impl_of (Some (Ty.Closure n)) e = absurd (false≢true e)
+  has_impl_of (Some other) e = absurd (false≢true e)
 
   -- ---- what needs no dropping holds nothing that is numbered, and no `Drop` body is entered in it
 
@@ -141,17 +121,7 @@ module _ (items : ItemTable) where
         boxed : (o : Option Ty) → type_at items id ≡ o → box_content o ≡ Some k.1.0 → NeedsDrop items id
         boxed None h c = absurd (none-some k.1.0 c)
         boxed (Some (Ty.Boxed t)) h c = a_box h
-        boxed (Some (Ty.Int kind)) h c = absurd (none-some k.1.0 c)
-        boxed (Some Ty.Bool) h c = absurd (none-some k.1.0 c)
-        boxed (Some Ty.Unit) h c = absurd (none-some k.1.0 c)
-        boxed (Some Ty.Never) h c = absurd (none-some k.1.0 c)
-        boxed (Some (Ty.Adt n)) h c = absurd (none-some k.1.0 c)
-        boxed (Some (Ty.Tuple ts)) h c = absurd (none-some k.1.0 c)
-        boxed (Some (Ty.Array t n)) h c = absurd (none-some k.1.0 c)
-        boxed (Some (Ty.Dyn n)) h c = absurd (none-some k.1.0 c)
-        boxed (Some (Ty.Shared t)) h c = absurd (none-some k.1.0 c)
-        boxed (Some (Ty.Unique t)) h c = absurd (none-some k.1.0 c)
-        boxed (Some (Ty.Closure n)) h c = absurd (none-some k.1.0 c)
+        boxed (Some other) h c = absurd (none-some k.1.0 c)
     quiet (Aggregate variant serial parts) found p u k =
         let none : drop_impl items (concrete_ty items found) ≡ None = unneeded_no_impl found u in
         let rest = quiets parts (λ n. type_of_field items variant n (concrete_ty items found))
@@ -188,74 +158,49 @@ module _ (items : ItemTable) where
   -- ---- values without parts need no dropping
 
   pub scalar_rule : (ty : Ty) → is_scalar ty ≡ true → drop_rule items.adts items.closures (needs_drop items) ty ≡ false
-  scalar_rule (Ty.Int kind) e = refl
-  scalar_rule Ty.Bool e = refl
-  scalar_rule Ty.Unit e = refl
-  scalar_rule Ty.Never e = refl
   scalar_rule (Ty.Adt n) e = absurd (false≢true e)
   scalar_rule (Ty.Tuple ts) e = absurd (false≢true e)
   scalar_rule (Ty.Array t c) e = absurd (false≢true e)
   scalar_rule (Ty.Boxed t) e = absurd (false≢true e)
   scalar_rule (Ty.Dyn n) e = absurd (false≢true e)
-  scalar_rule (Ty.Shared t) e = refl
-  scalar_rule (Ty.Unique t) e = refl
   scalar_rule (Ty.Closure n) e = absurd (false≢true e)
+  scalar_rule other e = refl
 
   pub number_scalar : (ty : Ty) (k : IntKind) → int_kind (Some ty) ≡ Some k → is_scalar ty ≡ true
-  number_scalar (Ty.Int kind) k e = refl
-  number_scalar Ty.Bool k e = refl
-  number_scalar Ty.Unit k e = refl
-  number_scalar Ty.Never k e = refl
   number_scalar (Ty.Adt n) k e = absurd (none-some k e)
   number_scalar (Ty.Tuple ts) k e = absurd (none-some k e)
   number_scalar (Ty.Array t c) k e = absurd (none-some k e)
   number_scalar (Ty.Boxed t) k e = absurd (none-some k e)
   number_scalar (Ty.Dyn n) k e = absurd (none-some k e)
-  number_scalar (Ty.Shared t) k e = refl
-  number_scalar (Ty.Unique t) k e = refl
   number_scalar (Ty.Closure n) k e = absurd (none-some k e)
+  number_scalar other k e = refl
 
   pub truth_scalar : (ty : Ty) → is_bool (Some ty) ≡ true → is_scalar ty ≡ true
-  truth_scalar (Ty.Int kind) e = refl
-  truth_scalar Ty.Bool e = refl
-  truth_scalar Ty.Unit e = refl
-  truth_scalar Ty.Never e = refl
   truth_scalar (Ty.Adt n) e = absurd (false≢true e)
   truth_scalar (Ty.Tuple ts) e = absurd (false≢true e)
   truth_scalar (Ty.Array t c) e = absurd (false≢true e)
   truth_scalar (Ty.Boxed t) e = absurd (false≢true e)
   truth_scalar (Ty.Dyn n) e = absurd (false≢true e)
-  truth_scalar (Ty.Shared t) e = refl
-  truth_scalar (Ty.Unique t) e = refl
   truth_scalar (Ty.Closure n) e = absurd (false≢true e)
+  truth_scalar other e = refl
 
   pub unit_scalar : (ty : Ty) → is_unit (Some ty) ≡ true → is_scalar ty ≡ true
-  unit_scalar (Ty.Int kind) e = refl
-  unit_scalar Ty.Bool e = refl
-  unit_scalar Ty.Unit e = refl
-  unit_scalar Ty.Never e = refl
   unit_scalar (Ty.Adt n) e = absurd (false≢true e)
   unit_scalar (Ty.Tuple ts) e = absurd (false≢true e)
   unit_scalar (Ty.Array t c) e = absurd (false≢true e)
   unit_scalar (Ty.Boxed t) e = absurd (false≢true e)
   unit_scalar (Ty.Dyn n) e = absurd (false≢true e)
-  unit_scalar (Ty.Shared t) e = refl
-  unit_scalar (Ty.Unique t) e = refl
   unit_scalar (Ty.Closure n) e = absurd (false≢true e)
+  unit_scalar other e = refl
 
   pub reference_scalar : (ty : Ty) → is_reference (Some ty) ≡ true → is_scalar ty ≡ true
-  reference_scalar (Ty.Int kind) e = refl
-  reference_scalar Ty.Bool e = refl
-  reference_scalar Ty.Unit e = refl
-  reference_scalar Ty.Never e = refl
   reference_scalar (Ty.Adt n) e = absurd (false≢true e)
   reference_scalar (Ty.Tuple ts) e = absurd (false≢true e)
   reference_scalar (Ty.Array t c) e = absurd (false≢true e)
   reference_scalar (Ty.Boxed t) e = absurd (false≢true e)
   reference_scalar (Ty.Dyn n) e = absurd (false≢true e)
-  reference_scalar (Ty.Shared t) e = refl
-  reference_scalar (Ty.Unique t) e = refl
   reference_scalar (Ty.Closure n) e = absurd (false≢true e)
+  reference_scalar other e = refl
 
   pub not_scalar : {A : Type 0} (id : TyId) (ty : Ty) → type_at items id ≡ Some ty → needs_drop items id ≡ true →
       is_scalar ty ≡ true → A

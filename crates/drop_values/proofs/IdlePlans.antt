@@ -121,43 +121,10 @@ module _ (items : ItemTable) (facts : Facts) (flag_of : ℕ → Option ℕ) (IsF
   apart-idle guard true (Ty.Adt n) below id shut h =
       guarded-idle guard (ByVariant (variant_plans items (variants_of (slice_get items.adts n)) (under below id) 0))
       shut
-  apart-idle guard false (Ty.Adt n) below id shut h = parts-idle guard (parts_of items (Ty.Adt n) 0) ToPart below id 0
+  apart-idle guard false other below id shut h = parts-idle guard (parts_of items other 0) ToPart below id 0
       shut h
-  apart-idle guard true (Ty.Int kind) below id shut h = parts-idle guard (parts_of items (Ty.Int kind) 0) ToPart below
+  apart-idle guard true other below id shut h = parts-idle guard (parts_of items other 0) ToPart below
       id 0 shut h
-  apart-idle guard false (Ty.Int kind) below id shut h = parts-idle guard (parts_of items (Ty.Int kind) 0) ToPart
-      below id 0 shut h
-  apart-idle guard true Ty.Bool below id shut h = parts-idle guard (parts_of items Ty.Bool 0) ToPart below id 0 shut h
-  apart-idle guard false Ty.Bool below id shut h = parts-idle guard (parts_of items Ty.Bool 0) ToPart below id 0 shut h
-  apart-idle guard true Ty.Unit below id shut h = parts-idle guard (parts_of items Ty.Unit 0) ToPart below id 0 shut h
-  apart-idle guard false Ty.Unit below id shut h = parts-idle guard (parts_of items Ty.Unit 0) ToPart below id 0 shut h
-  apart-idle guard true Ty.Never below id shut h = parts-idle guard (parts_of items Ty.Never 0) ToPart below id 0 shut h
-  apart-idle guard false Ty.Never below id shut h = parts-idle guard (parts_of items Ty.Never 0) ToPart below id 0
-      shut h
-  apart-idle guard true (Ty.Tuple ts) below id shut h = parts-idle guard (parts_of items (Ty.Tuple ts) 0) ToPart below
-      id 0 shut h
-  apart-idle guard false (Ty.Tuple ts) below id shut h = parts-idle guard (parts_of items (Ty.Tuple ts) 0) ToPart
-      below id 0 shut h
-  apart-idle guard true (Ty.Array t c) below id shut h = parts-idle guard (parts_of items (Ty.Array t c) 0) ToPart
-      below id 0 shut h
-  apart-idle guard false (Ty.Array t c) below id shut h = parts-idle guard (parts_of items (Ty.Array t c) 0) ToPart
-      below id 0 shut h
-  apart-idle guard true (Ty.Dyn n) below id shut h = parts-idle guard (parts_of items (Ty.Dyn n) 0) ToPart below id 0
-      shut h
-  apart-idle guard false (Ty.Dyn n) below id shut h = parts-idle guard (parts_of items (Ty.Dyn n) 0) ToPart below id 0
-      shut h
-  apart-idle guard true (Ty.Shared t) below id shut h = parts-idle guard (parts_of items (Ty.Shared t) 0) ToPart below
-      id 0 shut h
-  apart-idle guard false (Ty.Shared t) below id shut h = parts-idle guard (parts_of items (Ty.Shared t) 0) ToPart
-      below id 0 shut h
-  apart-idle guard true (Ty.Unique t) below id shut h = parts-idle guard (parts_of items (Ty.Unique t) 0) ToPart below
-      id 0 shut h
-  apart-idle guard false (Ty.Unique t) below id shut h = parts-idle guard (parts_of items (Ty.Unique t) 0) ToPart
-      below id 0 shut h
-  apart-idle guard true (Ty.Closure n) below id shut h = parts-idle guard (parts_of items (Ty.Closure n) 0) ToPart
-      below id 0 shut h
-  apart-idle guard false (Ty.Closure n) below id shut h = parts-idle guard (parts_of items (Ty.Closure n) 0) ToPart
-      below id 0 shut h
 
   inner-idle : (guard : Option ℕ) (below : Branches) (id : TyId) → ShutIf (reads_flag items below id) guard →
       (has_drop_impl items id ≡ false → ListIdle (under below id)) →

@@ -111,14 +111,7 @@ module _ (setting : Setting) (w : State) (cells : Cells) where
   struct_variant (Ty.Tuple ts) variant e h = (Decides-eqb variant 0).0 h
   struct_variant (Ty.Array t c) variant e h = (Decides-eqb variant 0).0 h
   struct_variant (Ty.Closure n) variant e h = (Decides-eqb variant 0).0 h
-  struct_variant (Ty.Int kind) variant e h = absurd (false≢true h)
-  struct_variant Ty.Bool variant e h = absurd (false≢true h)
-  struct_variant Ty.Unit variant e h = absurd (false≢true h)
-  struct_variant Ty.Never variant e h = absurd (false≢true h)
-  struct_variant (Ty.Boxed t) variant e h = absurd (false≢true h)
-  struct_variant (Ty.Dyn n) variant e h = absurd (false≢true h)
-  struct_variant (Ty.Shared t) variant e h = absurd (false≢true h)
-  struct_variant (Ty.Unique t) variant e h = absurd (false≢true h)
+  struct_variant other variant e h = absurd (false≢true h)
 
   field_is : (ty : Ty) (variant n : ℕ) (o : Option Ty) (f : DynamicType) (next : TyId) → o ≡ Some ty →
       slice_get (parts_of items ty variant) n ≡ Some next → type_of_field items variant n o ≡ Some f → f ≡ OfType next
@@ -130,33 +123,13 @@ module _ (setting : Setting) (w : State) (cells : Cells) where
   content_is : (ty : Ty) (content next : TyId) → box_content (Some ty) ≡ Some content → content_of ty ≡ Some next →
       content ≡ next
   content_is (Ty.Boxed t) content next e h = let x : Some content ≡ Some next = sym e ∙ h in cc
-  content_is (Ty.Int kind) content next e h = absurd (none-some content e)
-  content_is Ty.Bool content next e h = absurd (none-some content e)
-  content_is Ty.Unit content next e h = absurd (none-some content e)
-  content_is Ty.Never content next e h = absurd (none-some content e)
-  content_is (Ty.Adt n) content next e h = absurd (none-some content e)
-  content_is (Ty.Tuple ts) content next e h = absurd (none-some content e)
-  content_is (Ty.Array t c) content next e h = absurd (none-some content e)
-  content_is (Ty.Dyn n) content next e h = absurd (none-some content e)
-  content_is (Ty.Shared t) content next e h = absurd (none-some content e)
-  content_is (Ty.Unique t) content next e h = absurd (none-some content e)
-  content_is (Ty.Closure n) content next e h = absurd (none-some content e)
+  content_is other content next e h = absurd (none-some content e)
 
   in_box : (o : Option Ty) (content : TyId) (impl_no : Option ℕ) → box_content o ≡ Some content →
       type_in_box impl_no o ≡ Some (content_type content impl_no)
   in_box None content impl_no e = absurd (none-some content e)
   in_box (Some (Ty.Boxed t)) content impl_no e = let x : t ≡ content = cc in ap (λ t. Some (content_type t impl_no)) x
-  in_box (Some (Ty.Int kind)) content impl_no e = absurd (none-some content e)
-  in_box (Some Ty.Bool) content impl_no e = absurd (none-some content e)
-  in_box (Some Ty.Unit) content impl_no e = absurd (none-some content e)
-  in_box (Some Ty.Never) content impl_no e = absurd (none-some content e)
-  in_box (Some (Ty.Adt n)) content impl_no e = absurd (none-some content e)
-  in_box (Some (Ty.Tuple ts)) content impl_no e = absurd (none-some content e)
-  in_box (Some (Ty.Array t c)) content impl_no e = absurd (none-some content e)
-  in_box (Some (Ty.Dyn n)) content impl_no e = absurd (none-some content e)
-  in_box (Some (Ty.Shared t)) content impl_no e = absurd (none-some content e)
-  in_box (Some (Ty.Unique t)) content impl_no e = absurd (none-some content e)
-  in_box (Some (Ty.Closure n)) content impl_no e = absurd (none-some content e)
+  in_box (Some other) content impl_no e = absurd (none-some content e)
 
   -- a value at an address
   abbrev here : Addr → DynamicType → Datum → Located
@@ -183,12 +156,7 @@ module _ (setting : Setting) (w : State) (cells : Cells) where
         of = subst (λ (x : Located). IsOf items x.dynamic next) (sym i.is)
             (subst (λ f. IsOf items f next) (sym f_is) (itself next));
       }
-  part_step-way n ty next a _ Gone id p m is s (itself _) fit i = absurd (none-some i.value i.value_is)
-  part_step-way n ty next a _ (Number x) id p m is s (itself _) fit i = absurd (none-some i.value i.value_is)
-  part_step-way n ty next a _ (Truth x) id p m is s (itself _) fit i = absurd (none-some i.value i.value_is)
-  part_step-way n ty next a _ UnitValue id p m is s (itself _) fit i = absurd (none-some i.value i.value_is)
-  part_step-way n ty next a _ (Box x y z) id p m is s (itself _) fit i = absurd (none-some i.value i.value_is)
-  part_step-way n ty next a _ (Address x) id p m is s (itself _) fit i = absurd (none-some i.value i.value_is)
+  part_step-way n ty next a _ other id p m is s (itself _) fit i = absurd (none-some i.value i.value_is)
 
   field_step-way : (v n : ℕ) (ty : Ty) (next : TyId) (a : Addr) (dynamic : DynamicType) (d : Datum)
       (id : TyId) (m : Located) → type_at items id ≡ Some ty → step_ty items (ToField v n) ty ≡ Some next →
@@ -262,12 +230,7 @@ module _ (setting : Setting) (w : State) (cells : Cells) where
       follow_from setting w cells step d (here a dynamic d) ≡ Reaches m → follow setting w cells step
       (here a dynamic d) ≡ Reaches m
   followed step a dynamic Gone m e = absurd (let x : CutOff ≡ Reaches m = e in cc)
-  followed step a dynamic (Number x) m e = e
-  followed step a dynamic (Truth x) m e = e
-  followed step a dynamic UnitValue m e = e
-  followed step a dynamic (Aggregate x y z) m e = e
-  followed step a dynamic (Box x y z) m e = e
-  followed step a dynamic (Address x) m e = e
+  followed step a dynamic other m e = e
 
   pub one_step : (step : Step) (ty : Ty) (next : TyId) (a : Addr) (dynamic : DynamicType) (d : Datum)
       (id : TyId) (p : Presence) (m : Located) → type_at items id ≡ Some ty → step_ty items step ty ≡ Some next →

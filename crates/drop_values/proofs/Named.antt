@@ -75,20 +75,10 @@ module _ (items : ItemTable) where
       type_of_part items b (with_part a new d) found ≡ type_of_part items b d found
   type-other (Part n) (Part m) new (Aggregate variant serial parts) found = refl
   type-other (Part n) Inside new (Aggregate variant serial parts) found = refl
-  type-other (Part n) b new Gone found = refl
-  type-other (Part n) b new (Number x) found = refl
-  type-other (Part n) b new (Truth x) found = refl
-  type-other (Part n) b new UnitValue found = refl
-  type-other (Part n) b new (Box serial impl_no inside) found = refl
-  type-other (Part n) b new (Address x) found = refl
   type-other Inside (Part m) new (Box serial impl_no inside) found = refl
   type-other Inside Inside new (Box serial impl_no inside) found = refl
-  type-other Inside b new (Aggregate variant serial parts) found = refl
-  type-other Inside b new Gone found = refl
-  type-other Inside b new (Number x) found = refl
-  type-other Inside b new (Truth x) found = refl
-  type-other Inside b new UnitValue found = refl
-  type-other Inside b new (Address x) found = refl
+  type-other (Part n) b new other found = refl
+  type-other Inside b new other found = refl
 
   -- another part is as it was
   into-other : (a b : At) (r : Located) (new : Datum) → a ≢ b →

@@ -146,12 +146,7 @@ module _ (items : ItemTable) (local_ty local_ty' : (body local : ℕ) → Option
           follow strict w' cells (ToPart n) (with_value s other) ≡ o → follow_from strict w' cells
           (ToPart n) d (with_value s other) ≡ o
       by_part n (Aggregate variant serial parts) x e o h = h
-      by_part n Gone x e o h = absurd (let y : None ≡ Some x = e in cc)
-      by_part n (Number number) x e o h = absurd (let y : None ≡ Some x = e in cc)
-      by_part n (Truth truth) x e o h = absurd (let y : None ≡ Some x = e in cc)
-      by_part n UnitValue x e o h = absurd (let y : None ≡ Some x = e in cc)
-      by_part n (Box serial impl_no inside) x e o h = absurd (let y : None ≡ Some x = e in cc)
-      by_part n (Address address) x e o h = absurd (let y : None ≡ Some x = e in cc)
+      by_part n other x e o h = absurd (let y : None ≡ Some x = e in cc)
 
       by_content : (d : Datum) (x : Datum) → part Inside d ≡ Some x → other ≡ d → (o : Reached) →
           reach_of (into items Inside (with_value s other)) ≡ o → follow_from strict w' cells ToContent other
@@ -159,12 +154,7 @@ module _ (items : ItemTable) (local_ty local_ty' : (body local : ℕ) → Option
       by_content (Box serial impl_no inside) x e k o h =
           ap (λ d. follow_from strict w' cells ToContent d (with_value s d)) k
           ∙ ap (λ d. reach_of (into items Inside (with_value s d))) (sym k) ∙ h
-      by_content Gone x e k o h = absurd (let y : None ≡ Some x = e in cc)
-      by_content (Number number) x e k o h = absurd (let y : None ≡ Some x = e in cc)
-      by_content (Truth truth) x e k o h = absurd (let y : None ≡ Some x = e in cc)
-      by_content UnitValue x e k o h = absurd (let y : None ≡ Some x = e in cc)
-      by_content (Aggregate variant serial parts) x e k o h = absurd (let y : None ≡ Some x = e in cc)
-      by_content (Address address) x e k o h = absurd (let y : None ≡ Some x = e in cc)
+      by_content other x e k o h = absurd (let y : None ≡ Some x = e in cc)
 
       same_variant : (v : ℕ) → (v == v) ≡ true
       same_variant v = elim (eqb_tells v v) [ inl y ↦ y.0 | inr y ↦ absurd (y.1 refl) ]

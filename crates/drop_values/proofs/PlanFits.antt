@@ -92,38 +92,8 @@ module _ (items : ItemTable) (facts : Facts) (flag_of : ℕ → Option ℕ) (IsF
       (unit_scalar items ty (sym (ap is_unit o.is) ∙ k.1))
   apart-fits guard (Address address) ty id p below ih o k s = not_scalar items id ty o.is o.need
       (reference_scalar items ty (sym (ap is_reference o.is) ∙ k.1))
-  apart-fits guard (Box serial impl_no inside) (Ty.Int kind) id p below ih o k s =
-      absurd (none-some k.1.0 (sym (ap box_content o.is) ∙ k.1.1))
-  apart-fits guard (Box serial impl_no inside) Ty.Bool id p below ih o k s =
-      absurd (none-some k.1.0 (sym (ap box_content o.is) ∙ k.1.1))
-  apart-fits guard (Box serial impl_no inside) Ty.Unit id p below ih o k s =
-      absurd (none-some k.1.0 (sym (ap box_content o.is) ∙ k.1.1))
-  apart-fits guard (Box serial impl_no inside) Ty.Never id p below ih o k s =
-      absurd (none-some k.1.0 (sym (ap box_content o.is) ∙ k.1.1))
-  apart-fits guard (Box serial impl_no inside) (Ty.Adt n) id p below ih o k s =
-      absurd (none-some k.1.0 (sym (ap box_content o.is) ∙ k.1.1))
-  apart-fits guard (Box serial impl_no inside) (Ty.Tuple ts) id p below ih o k s =
-      absurd (none-some k.1.0 (sym (ap box_content o.is) ∙ k.1.1))
-  apart-fits guard (Box serial impl_no inside) (Ty.Array t c) id p below ih o k s =
-      absurd (none-some k.1.0 (sym (ap box_content o.is) ∙ k.1.1))
   apart-fits guard (Box serial impl_no inside) (Ty.Boxed t) id p below ih o k s =
       of-box-fits items facts flag_of IsFlag holds guard t id serial impl_no inside p below o ih k s
-  apart-fits guard (Box serial impl_no inside) (Ty.Dyn n) id p below ih o k s =
-      absurd (none-some k.1.0 (sym (ap box_content o.is) ∙ k.1.1))
-  apart-fits guard (Box serial impl_no inside) (Ty.Shared t) id p below ih o k s =
-      absurd (none-some k.1.0 (sym (ap box_content o.is) ∙ k.1.1))
-  apart-fits guard (Box serial impl_no inside) (Ty.Unique t) id p below ih o k s =
-      absurd (none-some k.1.0 (sym (ap box_content o.is) ∙ k.1.1))
-  apart-fits guard (Box serial impl_no inside) (Ty.Closure n) id p below ih o k s =
-      absurd (none-some k.1.0 (sym (ap box_content o.is) ∙ k.1.1))
-  apart-fits guard (Aggregate variant serial parts) (Ty.Int kind) id p below ih o k s =
-      absurd (false≢true (sym (ap (λ x. has_variant items x variant) o.is) ∙ k.2))
-  apart-fits guard (Aggregate variant serial parts) Ty.Bool id p below ih o k s =
-      absurd (false≢true (sym (ap (λ x. has_variant items x variant) o.is) ∙ k.2))
-  apart-fits guard (Aggregate variant serial parts) Ty.Unit id p below ih o k s =
-      absurd (false≢true (sym (ap (λ x. has_variant items x variant) o.is) ∙ k.2))
-  apart-fits guard (Aggregate variant serial parts) Ty.Never id p below ih o k s =
-      absurd (false≢true (sym (ap (λ x. has_variant items x variant) o.is) ∙ k.2))
   apart-fits guard (Aggregate variant serial parts) (Ty.Adt n) id p below ih o k s =
       by (is_enum items (Ty.Adt n)) refl (sym (ap (λ x. has_variant items x variant) o.is) ∙ k.2)
     where
@@ -147,17 +117,13 @@ module _ (items : ItemTable) (facts : Facts) (flag_of : ℕ → Option ℕ) (IsF
   apart-fits guard (Aggregate variant serial parts) (Ty.Array t c) id p below ih o k s =
       in-parts-fit items facts flag_of IsFlag holds guard (Ty.Array t c) id variant serial parts p below o ih refl
       ((Decides-eqb variant 0).0 (sym (ap (λ x. has_variant items x variant) o.is) ∙ k.2)) k s
-  apart-fits guard (Aggregate variant serial parts) (Ty.Boxed t) id p below ih o k s =
-      absurd (false≢true (sym (ap (λ x. has_variant items x variant) o.is) ∙ k.2))
-  apart-fits guard (Aggregate variant serial parts) (Ty.Dyn n) id p below ih o k s =
-      absurd (false≢true (sym (ap (λ x. has_variant items x variant) o.is) ∙ k.2))
-  apart-fits guard (Aggregate variant serial parts) (Ty.Shared t) id p below ih o k s =
-      absurd (false≢true (sym (ap (λ x. has_variant items x variant) o.is) ∙ k.2))
-  apart-fits guard (Aggregate variant serial parts) (Ty.Unique t) id p below ih o k s =
-      absurd (false≢true (sym (ap (λ x. has_variant items x variant) o.is) ∙ k.2))
   apart-fits guard (Aggregate variant serial parts) (Ty.Closure n) id p below ih o k s =
       in-parts-fit items facts flag_of IsFlag holds guard (Ty.Closure n) id variant serial parts p below o ih refl
       ((Decides-eqb variant 0).0 (sym (ap (λ x. has_variant items x variant) o.is) ∙ k.2)) k s
+  apart-fits guard (Box serial impl_no inside) other id p below ih o k s =
+      absurd (none-some k.1.0 (sym (ap box_content o.is) ∙ k.1.1))
+  apart-fits guard (Aggregate variant serial parts) other id p below ih o k s =
+      absurd (false≢true (sym (ap (λ x. has_variant items x variant) o.is) ∙ k.2))
 
   -- the plan where the own part of a path is there
   inner-fits : (guard : Option ℕ) → Open items IsFlag holds guard → (d : Datum) (below : Branches)
@@ -210,12 +176,7 @@ module _ (items : ItemTable) (facts : Facts) (flag_of : ℕ → Option ℕ) (IsF
 
   gone-is : (d : Datum) (found : DynamicType) (p : Presence) → itself_gone p ≡ true → Fits items found p d → d ≡ Gone
   gone-is Gone found p g k = refl
-  gone-is (Number number) found p g k = no_and_yes (itself_gone p) g k.0
-  gone-is (Truth truth) found p g k = no_and_yes (itself_gone p) g k.0
-  gone-is UnitValue found p g k = no_and_yes (itself_gone p) g k.0
-  gone-is (Aggregate variant serial parts) found p g k = no_and_yes (itself_gone p) g k.0
-  gone-is (Box serial impl_no inside) found p g k = no_and_yes (itself_gone p) g k.0
-  gone-is (Address address) found p g k = no_and_yes (itself_gone p) g k.0
+  gone-is other found p g k = no_and_yes (itself_gone p) g k.0
 
   abbrev PIdle : Plan → Type 0
   PIdle = Idle items IsFlag holds

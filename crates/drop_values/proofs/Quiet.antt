@@ -176,12 +176,7 @@ module _ (setting : Setting) (run : Bodies) where
 
   no_panic_freed : (d : Datum) (s : Located) (w : State) → NoPanic (freed_there setting run d s w)
   no_panic_freed (Box serial impl_no inside) s w = tt
-  no_panic_freed Gone s w = tt
-  no_panic_freed (Number number) s w = tt
-  no_panic_freed (Truth truth) s w = tt
-  no_panic_freed UnitValue s w = tt
-  no_panic_freed (Aggregate variant serial parts) s w = tt
-  no_panic_freed (Address address) s w = tt
+  no_panic_freed other s w = tt
 
   module _ (again : Stage → Located → Mode → State → Out State)
       (again_calm : (stage : Stage) (s : Located) (w : State) → NoPanic (again stage s Unwinding w)) (ticks : ℕ) where

@@ -65,12 +65,7 @@ module _ (Spare : Datum → Type 0) (items : ItemTable) (local_ty local_ty' : (b
         m →
         follow raw w cells step s ≡ Reaches m
     not_gone cells step Gone s m e = absurd (let x : CutOff ≡ Reaches m = e in cc)
-    not_gone cells step (Number number) s m e = e
-    not_gone cells step (Truth truth) s m e = e
-    not_gone cells step UnitValue s m e = e
-    not_gone cells step (Aggregate variant serial parts) s m e = e
-    not_gone cells step (Box serial impl_no inside) s m e = e
-    not_gone cells step (Address address) s m e = e
+    not_gone cells step other s m e = e
 
     stands_part : (s m : Located) (at : At) → Stands raw w s → into items at s ≡ Some m → Stands raw w m
     stands_part s m at st e =
@@ -104,12 +99,7 @@ module _ (Spare : Datum → Type 0) (items : ItemTable) (local_ty local_ty' : (b
         where
           same : (v == active) ≡ true → v ≡ active
           same y = elim (eqb_tells v active) [ inl z ↦ z.1 | inr z ↦ absurd (let x : true ≡ false = sym y ∙ z.0 in cc) ]
-      by_field v n Gone s m other is st c e = absurd (let x : Nowhere ≡ Reaches m = e in cc)
-      by_field v n (Number number) s m other is st c e = absurd (let x : Nowhere ≡ Reaches m = e in cc)
-      by_field v n (Truth truth) s m other is st c e = absurd (let x : Nowhere ≡ Reaches m = e in cc)
-      by_field v n UnitValue s m other is st c e = absurd (let x : Nowhere ≡ Reaches m = e in cc)
-      by_field v n (Box serial impl_no inside) s m other is st c e = absurd (let x : Nowhere ≡ Reaches m = e in cc)
-      by_field v n (Address address) s m other is st c e = absurd (let x : Nowhere ≡ Reaches m = e in cc)
+      by_field v n others s m other is st c e = absurd (let x : Nowhere ≡ Reaches m = e in cc)
 
       by_name : (o : Option TyId) (u : Option Located) (m : Located) → by_reference items o u ≡ Reaches m →
           (id : TyId) × (o ≡ Some id) × (u ≡ Some m) × (is_of_type items id m.dynamic ≡ true)
@@ -153,12 +143,7 @@ module _ (Spare : Datum → Type 0) (items : ItemTable) (local_ty local_ty' : (b
           follow_from strict w' cells' (ToPart n) d t ≡ Reaches r → follow_from strict w' cells'
           (ToElement local) d t ≡ Reaches r
       as_element local n Gone t r k e = absurd (let x : CutOff ≡ Reaches r = e in cc)
-      as_element local n (Number number) t r k e = ap (λ d. into_element strict w' cells' d t) k ∙ e
-      as_element local n (Truth truth) t r k e = ap (λ d. into_element strict w' cells' d t) k ∙ e
-      as_element local n UnitValue t r k e = ap (λ d. into_element strict w' cells' d t) k ∙ e
-      as_element local n (Aggregate variant serial parts) t r k e = ap (λ d. into_element strict w' cells' d t) k ∙ e
-      as_element local n (Box serial impl_no inside) t r k e = ap (λ d. into_element strict w' cells' d t) k ∙ e
-      as_element local n (Address address) t r k e = ap (λ d. into_element strict w' cells' d t) k ∙ e
+      as_element local n other t r k e = ap (λ d. into_element strict w' cells' d t) k ∙ e
 
       by_element : (local : ℕ) (d : Datum) (s m : Located) (other : Datum) → CoversBy Spare d (cell local cells') →
           Stands raw w s → CoversBy Spare s.value other → into_element raw w cells d s ≡ Reaches m →
@@ -167,14 +152,7 @@ module _ (Spare : Datum → Type 0) (items : ItemTable) (local_ty local_ty' : (b
           let i = reached_some (into items (Part n) s) m e in
           let t = by_take (ToPart n) (Part n) s m other st c i (refl, into-parts items (Part n) s m i) in
           (t.0, as_element local n other (with_value s other) (with_value m t.0) k t.1, t.2, t.3)
-      by_element local (Number (negsuc n)) s m other k st c e = absurd (let x : Nowhere ≡ Reaches m = e in cc)
-      by_element local Gone s m other k st c e = absurd (let x : Nowhere ≡ Reaches m = e in cc)
-      by_element local (Truth truth) s m other k st c e = absurd (let x : Nowhere ≡ Reaches m = e in cc)
-      by_element local UnitValue s m other k st c e = absurd (let x : Nowhere ≡ Reaches m = e in cc)
-      by_element local (Aggregate variant serial parts) s m other k st c e =
-          absurd (let x : Nowhere ≡ Reaches m = e in cc)
-      by_element local (Box serial impl_no inside) s m other k st c e = absurd (let x : Nowhere ≡ Reaches m = e in cc)
-      by_element local (Address address) s m other k st c e = absurd (let x : Nowhere ≡ Reaches m = e in cc)
+      by_element local others s m other k st c e = absurd (let x : Nowhere ≡ Reaches m = e in cc)
 
       one_step : (step : Step) (s m : Located) (other : Datum) → StepOk (local_ty number) step → Stands raw w s →
           CoversBy Spare s.value other → follow raw w cells step s ≡ Reaches m → StepThere step s m other

@@ -349,13 +349,4 @@ module _ (items : ItemTable) (local_ty : (body local : ℕ) → Option TyId) (nu
         halted-same u z to _ _ f (unsize-acts to r.0 ok run trait_no operand u z f r.1)
     refill-matches run (effects.Borrow to unique base) u z r ok f =
         halted-same u z to _ _ f (borrow-acts to r.0 ok run unique base u z f r.1)
-    refill-matches run (effects.Touch base) u z r ok f = absurd r
-    refill-matches run (effects.Print operand) u z r ok f = absurd r
-    refill-matches run (effects.Forget operand) u z r ok f = absurd r
-    refill-matches run (effects.Free box) u z r ok f = absurd r
-    refill-matches run (effects.Compute to operator left right) u z r ok f = absurd r
-    refill-matches run (effects.Negate to operand) u z r ok f = absurd r
-    refill-matches run (effects.Bounds index count) u z r ok f = absurd r
-    refill-matches run (effects.Call to callee args) u z r ok f = absurd r
-    refill-matches run (effects.CallVirtual to trait_no method args) u z r ok f = absurd r
-    refill-matches run (effects.Ask to) u z r ok f = absurd r
+    refill-matches run other u z r ok f = absurd r

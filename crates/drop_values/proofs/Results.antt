@@ -176,29 +176,14 @@ module _ (items : ItemTable) (local_ty local_ty' : (body local : ℕ) → Option
     compute-Same to operator None left right w w' b ok = inl tt
     compute-Same to operator (Some kind) (Number x) (Number y) w w' b ok =
         computed-Same to (computed operator kind x y) w w' b ok
-    compute-Same to operator (Some kind) (Number x) Gone w w' b ok = inl tt
-    compute-Same to operator (Some kind) (Number x) (Truth y) w w' b ok = inl tt
-    compute-Same to operator (Some kind) (Number x) UnitValue w w' b ok = inl tt
-    compute-Same to operator (Some kind) (Number x) (Aggregate v s ps) w w' b ok = inl tt
-    compute-Same to operator (Some kind) (Number x) (Box s i d) w w' b ok = inl tt
-    compute-Same to operator (Some kind) (Number x) (Address a) w w' b ok = inl tt
-    compute-Same to operator (Some kind) Gone right w w' b ok = inl tt
-    compute-Same to operator (Some kind) (Truth x) right w w' b ok = inl tt
-    compute-Same to operator (Some kind) UnitValue right w w' b ok = inl tt
-    compute-Same to operator (Some kind) (Aggregate v s ps) right w w' b ok = inl tt
-    compute-Same to operator (Some kind) (Box s i d) right w w' b ok = inl tt
-    compute-Same to operator (Some kind) (Address a) right w w' b ok = inl tt
+    compute-Same to operator (Some kind) (Number x) other w w' b ok = inl tt
+    compute-Same to operator (Some kind) other right w w' b ok = inl tt
 
     pub negate-Same : (to : EffectSite) (kind : Option IntKind) (v : Datum) (w w' : State) → Both most w w' →
         SiteOk to → Way (negate raw to kind v w) (negate strict to kind v w')
     negate-Same to None v w w' b ok = inl tt
     negate-Same to (Some kind) (Number x) w w' b ok = computed-Same to (if_within kind (neg_ℤ x)) w w' b ok
-    negate-Same to (Some kind) Gone w w' b ok = inl tt
-    negate-Same to (Some kind) (Truth x) w w' b ok = inl tt
-    negate-Same to (Some kind) UnitValue w w' b ok = inl tt
-    negate-Same to (Some kind) (Aggregate v s ps) w w' b ok = inl tt
-    negate-Same to (Some kind) (Box s i d) w w' b ok = inl tt
-    negate-Same to (Some kind) (Address a) w w' b ok = inl tt
+    negate-Same to (Some kind) other w w' b ok = inl tt
 
     within-Same : (x : Bool) (w w' : State) → Both most w w' → Way (within_bounds raw x w) (within_bounds strict x w')
     within-Same true w w' b = (w', refl, b.like)
@@ -207,12 +192,7 @@ module _ (items : ItemTable) (local_ty local_ty' : (body local : ℕ) → Option
     pub bounded-Same : (count : ℕ) (v : Datum) (w w' : State) → Both most w w' → Way (bounded raw count v w)
         (bounded strict count v w')
     bounded-Same count (Number x) w w' b = within-Same (int_lt x (pos count)) w w' b
-    bounded-Same count Gone w w' b = inl tt
-    bounded-Same count (Truth x) w w' b = inl tt
-    bounded-Same count UnitValue w w' b = inl tt
-    bounded-Same count (Aggregate v s ps) w w' b = inl tt
-    bounded-Same count (Box s i d) w w' b = inl tt
-    bounded-Same count (Address a) w w' b = inl tt
+    bounded-Same count other w w' b = inl tt
 
     pub printed-Same : (v : Datum) (w w' : State) → Both most w w' → Way (printed raw v w) (printed strict v w')
     printed-Same (Number x) w w' b = (

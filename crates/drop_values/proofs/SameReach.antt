@@ -29,33 +29,17 @@ module _ (items : ItemTable) (local_ty : (body local : ℕ) → Option TyId) whe
     through-same : (cells : Cells) (d : Datum) (s : Located) →
         through (setting b) w cells d s ≡ through (setting c) w' cells d s
     through-same cells (Address a) s = ap (by_reference items (named_by (concrete_ty items s.dynamic))) (located-same a)
-    through-same cells (Box serial impl_no inside) s = refl
-    through-same cells Gone s = refl
-    through-same cells (Number x) s = refl
-    through-same cells (Truth x) s = refl
-    through-same cells UnitValue s = refl
-    through-same cells (Aggregate x y z) s = refl
+    through-same cells other s = refl
 
     field-same : (cells : Cells) (v n : ℕ) (d : Datum) (s : Located) →
         into_field (setting b) w cells v n d s ≡ into_field (setting c) w' cells v n d s
     field-same cells v n (Aggregate x y z) s = refl
-    field-same cells v n (Address a) s = refl
-    field-same cells v n (Box serial impl_no inside) s = refl
-    field-same cells v n Gone s = refl
-    field-same cells v n (Number x) s = refl
-    field-same cells v n (Truth x) s = refl
-    field-same cells v n UnitValue s = refl
+    field-same cells v n other s = refl
 
     element-same : (cells : Cells) (d : Datum) (s : Located) →
         into_element (setting b) w cells d s ≡ into_element (setting c) w' cells d s
     element-same cells (Number (pos n)) s = refl
-    element-same cells (Number (negsuc n)) s = refl
-    element-same cells (Aggregate x y z) s = refl
-    element-same cells (Address a) s = refl
-    element-same cells (Box serial impl_no inside) s = refl
-    element-same cells Gone s = refl
-    element-same cells (Truth x) s = refl
-    element-same cells UnitValue s = refl
+    element-same cells other s = refl
 
     follow-same : (cells : Cells) (step : Step) (s : Located) →
         follow (setting b) w cells step s ≡ follow (setting c) w' cells step s
@@ -67,12 +51,7 @@ module _ (items : ItemTable) (local_ty : (body local : ℕ) → Option TyId) whe
     from-same : (cells : Cells) (step : Step) (d : Datum) (s : Located) →
         follow_from (setting b) w cells step d s ≡ follow_from (setting c) w' cells step d s
     from-same cells step Gone s = refl
-    from-same cells step (Number x) s = follow-same cells step s
-    from-same cells step (Truth x) s = follow-same cells step s
-    from-same cells step UnitValue s = follow-same cells step s
-    from-same cells step (Aggregate x y z) s = follow-same cells step s
-    from-same cells step (Box x y z) s = follow-same cells step s
-    from-same cells step (Address x) s = follow-same cells step s
+    from-same cells step other s = follow-same cells step s
 
     on-same : (r : Reached) (f g : Located → Reached) → ((s : Located) → f s ≡ g s) →
         on_reached r f CutOff Nowhere ≡ on_reached r g CutOff Nowhere

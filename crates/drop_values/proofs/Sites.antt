@@ -67,18 +67,8 @@ module _ (items : ItemTable) where
 
   box-or-reference : (o : Option Ty) (content to : TyId) → box_content o ≡ Some content → named_by o ≡ Some to → ⊥
   box-or-reference None content to e h = none-some content e
-  box-or-reference (Some (Ty.Int kind)) content to e h = none-some content e
-  box-or-reference (Some Ty.Bool) content to e h = none-some content e
-  box-or-reference (Some Ty.Unit) content to e h = none-some content e
-  box-or-reference (Some Ty.Never) content to e h = none-some content e
-  box-or-reference (Some (Ty.Adt k)) content to e h = none-some content e
-  box-or-reference (Some (Ty.Tuple ts)) content to e h = none-some content e
-  box-or-reference (Some (Ty.Array t c)) content to e h = none-some content e
   box-or-reference (Some (Ty.Boxed t)) content to e h = none-some to h
-  box-or-reference (Some (Ty.Dyn k)) content to e h = none-some content e
-  box-or-reference (Some (Ty.Shared t)) content to e h = none-some content e
-  box-or-reference (Some (Ty.Unique t)) content to e h = none-some content e
-  box-or-reference (Some (Ty.Closure k)) content to e h = none-some content e
+  box-or-reference (Some other) content to e h = none-some content e
 
 module _ (setting : Setting) (w : State) (cells : Cells) where
   -- along steps in two pieces

@@ -175,19 +175,9 @@ with_value s new = record s { value = new }
 found_part-with_part : (items : ItemTable) (step : At) (new v : Datum) (found : DynamicType) →
     type_of_part items step (with_part step new v) found ≡ type_of_part items step v found
 found_part-with_part items (Part n) new (Aggregate variant serial parts) found = refl
-found_part-with_part items (Part n) new Gone found = refl
-found_part-with_part items (Part n) new (Number x) found = refl
-found_part-with_part items (Part n) new (Truth x) found = refl
-found_part-with_part items (Part n) new UnitValue found = refl
-found_part-with_part items (Part n) new (Box serial impl_no inside) found = refl
-found_part-with_part items (Part n) new (Address x) found = refl
 found_part-with_part items Inside new (Aggregate variant serial parts) found = refl
-found_part-with_part items Inside new Gone found = refl
-found_part-with_part items Inside new (Number x) found = refl
-found_part-with_part items Inside new (Truth x) found = refl
-found_part-with_part items Inside new UnitValue found = refl
-found_part-with_part items Inside new (Box serial impl_no inside) found = refl
-found_part-with_part items Inside new (Address x) found = refl
+found_part-with_part items (Part n) new other found = refl
+found_part-with_part items Inside new other found = refl
 
 -- what a step leads to, taken apart
 pub record Into (items : ItemTable) (step : At) (s t : Located) : Type 0 where

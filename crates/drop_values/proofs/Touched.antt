@@ -68,21 +68,11 @@ abbrev pub NoAddress : Datum → Type 0
 NoAddress d = (c : Addr) → d ≡ Address c → ⊥
 
 with-part-plain : (at : At) (d old new : Datum) → part at d ≡ Some old → NoAddress (with_part at new d)
-with-part-plain (Part n) Gone old new e c h = none-some old e
-with-part-plain (Part n) (Number k) old new e c h = none-some old e
-with-part-plain (Part n) (Truth k) old new e c h = none-some old e
-with-part-plain (Part n) UnitValue old new e c h = none-some old e
 with-part-plain (Part n) (Aggregate v k parts) old new e c h =
     absurd (let same : Aggregate v k (with_part_at n new parts) ≡ Address c = h in cc)
-with-part-plain (Part n) (Box v k parts) old new e c h = none-some old e
-with-part-plain (Part n) (Address k) old new e c h = none-some old e
-with-part-plain Inside Gone old new e c h = none-some old e
-with-part-plain Inside (Number k) old new e c h = none-some old e
-with-part-plain Inside (Truth k) old new e c h = none-some old e
-with-part-plain Inside UnitValue old new e c h = none-some old e
-with-part-plain Inside (Aggregate v k parts) old new e c h = none-some old e
 with-part-plain Inside (Box v k parts) old new e c h = absurd (let same : Box v k new ≡ Address c = h in cc)
-with-part-plain Inside (Address k) old new e c h = none-some old e
+with-part-plain (Part n) other old new e c h = none-some old e
+with-part-plain Inside other old new e c h = none-some old e
 
 -- with another value within it, it is none
 pub no-address : (items : ItemTable) (path : List At) (r s : Located) (new : Datum) →

@@ -59,17 +59,7 @@ module _ (items : ItemTable) where
   is_adt-type : (n : ℕ) (o : Option Ty) → is_adt n o ≡ true → o ≡ Some (Ty.Adt n)
   is_adt-type n None h = absurd (false≢true h)
   is_adt-type n (Some (Ty.Adt m)) h = ap (λ k. Some (Ty.Adt k)) (sym ((Decides-eqb n m).0 h))
-  is_adt-type n (Some (Ty.Int kind)) h = absurd (false≢true h)
-  is_adt-type n (Some Ty.Bool) h = absurd (false≢true h)
-  is_adt-type n (Some Ty.Unit) h = absurd (false≢true h)
-  is_adt-type n (Some Ty.Never) h = absurd (false≢true h)
-  is_adt-type n (Some (Ty.Tuple ts)) h = absurd (false≢true h)
-  is_adt-type n (Some (Ty.Array t c)) h = absurd (false≢true h)
-  is_adt-type n (Some (Ty.Boxed t)) h = absurd (false≢true h)
-  is_adt-type n (Some (Ty.Dyn k)) h = absurd (false≢true h)
-  is_adt-type n (Some (Ty.Shared t)) h = absurd (false≢true h)
-  is_adt-type n (Some (Ty.Unique t)) h = absurd (false≢true h)
-  is_adt-type n (Some (Ty.Closure k)) h = absurd (false≢true h)
+  is_adt-type n (Some other) h = absurd (false≢true h)
 
   pub as-of : (id : TyId) (found : DynamicType) → Proper items found → is_of_type items id found ≡ true → As found id
   as-of id _ (a_type id') h = subst (λ x. As (OfType x) id) (sym (same_number id id' h)) (itself_as id)
@@ -149,19 +139,12 @@ module _ (items : ItemTable) where
 
   pub variant-zero : (ty : Ty) (variant : ℕ) → is_enum items ty ≡ false → has_variant items (Some ty) variant ≡ true →
       variant ≡ 0
-  variant-zero (Ty.Int kind) variant e h = absurd (false≢true h)
-  variant-zero Ty.Bool variant e h = absurd (false≢true h)
-  variant-zero Ty.Unit variant e h = absurd (false≢true h)
-  variant-zero Ty.Never variant e h = absurd (false≢true h)
   variant-zero (Ty.Adt k) variant e h = (Decides-eqb variant 0).0
       (subst (λ b. variant_if items b (slice_get items.adts k) variant ≡ true) e h)
   variant-zero (Ty.Tuple ts) variant e h = (Decides-eqb variant 0).0 h
   variant-zero (Ty.Array t c) variant e h = (Decides-eqb variant 0).0 h
-  variant-zero (Ty.Boxed t) variant e h = absurd (false≢true h)
-  variant-zero (Ty.Dyn k) variant e h = absurd (false≢true h)
-  variant-zero (Ty.Shared t) variant e h = absurd (false≢true h)
-  variant-zero (Ty.Unique t) variant e h = absurd (false≢true h)
   variant-zero (Ty.Closure k) variant e h = (Decides-eqb variant 0).0 h
+  variant-zero other variant e h = absurd (false≢true h)
 
   pub element-is : (count n : ℕ) (e next : TyId) → slice_get (replicate count e) n ≡ Some next → next ≡ e
   element-is zero n e next h = absurd (none-some next h)

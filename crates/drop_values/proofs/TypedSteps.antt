@@ -83,12 +83,7 @@ module _ (items : ItemTable) (local_ty : (body local : ℕ) → Option TyId) (w 
         typed =
             (presence_at (part_step items dynamic variant n) t.0, fit);
       })
-  part-as n a dynamic Gone m ty next c t i part_is = absurd (none-some i.value i.value_is)
-  part-as n a dynamic (Number x) m ty next c t i part_is = absurd (none-some i.value i.value_is)
-  part-as n a dynamic (Truth x) m ty next c t i part_is = absurd (none-some i.value i.value_is)
-  part-as n a dynamic UnitValue m ty next c t i part_is = absurd (none-some i.value i.value_is)
-  part-as n a dynamic (Box x y z) m ty next c t i part_is = absurd (none-some i.value i.value_is)
-  part-as n a dynamic (Address x) m ty next c t i part_is = absurd (none-some i.value i.value_is)
+  part-as n a dynamic other m ty next c t i part_is = absurd (none-some i.value i.value_is)
 
   flat_enum : (b : Bool) (o : Option TyId) (next : TyId) → unless_enum b o ≡ Some next → (b ≡ false) × (o ≡ Some next)
   flat_enum false o next e = (refl, e)
@@ -134,18 +129,8 @@ module _ (items : ItemTable) (local_ty : (body local : ℕ) → Option TyId) (w 
 
   box-next : (ty : Ty) (content next : TyId) → box_content (Some ty) ≡ Some content → content_of ty ≡ Some next →
       content ≡ next
-  box-next (Ty.Int kind) content next e h = absurd (none-some content e)
-  box-next Ty.Bool content next e h = absurd (none-some content e)
-  box-next Ty.Unit content next e h = absurd (none-some content e)
-  box-next Ty.Never content next e h = absurd (none-some content e)
-  box-next (Ty.Adt k) content next e h = absurd (none-some content e)
-  box-next (Ty.Tuple ts) content next e h = absurd (none-some content e)
-  box-next (Ty.Array t c) content next e h = absurd (none-some content e)
   box-next (Ty.Boxed t) content next e h = let x : Some content ≡ Some next = sym e ∙ h in cc
-  box-next (Ty.Dyn k) content next e h = absurd (none-some content e)
-  box-next (Ty.Shared t) content next e h = absurd (none-some content e)
-  box-next (Ty.Unique t) content next e h = absurd (none-some content e)
-  box-next (Ty.Closure k) content next e h = absurd (none-some content e)
+  box-next other content next e h = absurd (none-some content e)
 
   -- what is of another type is no address
   no_reference : (a : DynamicType) (address : Addr) (ty : Ty) → IsTypedAs items a (Address address) →
@@ -181,20 +166,10 @@ module _ (items : ItemTable) (local_ty : (body local : ℕ) → Option TyId) (w 
 
   element-next : (ty : Ty) (variant n : ℕ) (part next : TyId) → element_of ty ≡ Some next →
       has_variant items (Some ty) variant ≡ true → slice_get (parts_of items ty variant) n ≡ Some part → part ≡ next
-  element-next (Ty.Int kind) variant n part next e h p = absurd (none-some next e)
-  element-next Ty.Bool variant n part next e h p = absurd (none-some next e)
-  element-next Ty.Unit variant n part next e h p = absurd (none-some next e)
-  element-next Ty.Never variant n part next e h p = absurd (none-some next e)
-  element-next (Ty.Adt k) variant n part next e h p = absurd (none-some next e)
-  element-next (Ty.Tuple ts) variant n part next e h p = absurd (none-some next e)
   element-next (Ty.Array t c) variant n part next e h p =
       element-is items c n t part (sym (ap (λ v. slice_get (of_one_variant (replicate c t) v) n)
       ((Decides-eqb variant 0).0 h)) ∙ p) ∙ (let x : Some t ≡ Some next = e in cc)
-  element-next (Ty.Boxed t) variant n part next e h p = absurd (none-some next e)
-  element-next (Ty.Dyn k) variant n part next e h p = absurd (none-some next e)
-  element-next (Ty.Shared t) variant n part next e h p = absurd (none-some next e)
-  element-next (Ty.Unique t) variant n part next e h p = absurd (none-some next e)
-  element-next (Ty.Closure k) variant n part next e h p = absurd (none-some next e)
+  element-next other variant n part next e h p = absurd (none-some next e)
 
   typed-element : (index : Datum) (a : Addr) (dynamic : DynamicType) (d : Datum) (m : Located) (ty : Ty) (next : TyId) →
       concrete_ty items dynamic ≡ Some ty → element_of ty ≡ Some next → IsTypedAs items dynamic d →
@@ -291,12 +266,7 @@ module _ (items : ItemTable) (local_ty : (body local : ℕ) → Option TyId) (w 
       follow_from raw w cells step d (here a dynamic d) ≡ Reaches m → follow raw w cells step
       (here a dynamic d) ≡ Reaches m
   followed step a dynamic Gone m e = absurd (let x : CutOff ≡ Reaches m = e in cc)
-  followed step a dynamic (Number x) m e = e
-  followed step a dynamic (Truth x) m e = e
-  followed step a dynamic UnitValue m e = e
-  followed step a dynamic (Aggregate x y z) m e = e
-  followed step a dynamic (Box x y z) m e = e
-  followed step a dynamic (Address x) m e = e
+  followed step a dynamic other m e = e
 
   -- what is reached along such steps: the address runs along them, and it is found as their type
   pub record AlongAs (steps : List Step) (s t : Located) (end : TyId) : Type 0 where

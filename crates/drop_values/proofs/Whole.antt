@@ -109,12 +109,6 @@ module _ (items : ItemTable) (local_ty local_ty' : (body local : ℕ) → Option
     where
       go : (d other : Datum) → Covers d other → L (stored_at s.address Gone w) (stored_at s.address Gone w') →
           Way (freed_there raw run d (with_value s v) w) (freed_there strict run' other (with_value s other) w')
-      go Gone other c l = inl tt
-      go (Number number) other c l = inl tt
-      go (Truth truth) other c l = inl tt
-      go UnitValue other c l = inl tt
-      go (Aggregate variant serial parts) other c l = inl tt
-      go (Address address) other c l = inl tt
       go (Box serial impl_no inside) other c l = (
         with_event (Event.Freed serial) (stored_at s.address Gone w'),
         ap (λ d. freed_there strict run' d (with_value s other) w') c.1,
@@ -131,6 +125,7 @@ module _ (items : ItemTable) (local_ty local_ty' : (body local : ℕ) → Option
           flags_are = l.flags_are;
         },
       )
+      go others other c l = inl tt
 
   module _ (b ticks : ℕ) (again_Same : (stage : Stage) (s : Located) (v : Datum) (mode : Mode) (w w' : State) →
       Stands raw w (with_value s v) → IsFull items s.dynamic v → L w w' → w.ticks ≤ most →

@@ -172,14 +172,7 @@ module _ (items : ItemTable) where
   variant-zero (Ty.Tuple ts) variant e h = (Decides-eqb variant 0).0 h
   variant-zero (Ty.Array t c) variant e h = (Decides-eqb variant 0).0 h
   variant-zero (Ty.Closure n) variant e h = (Decides-eqb variant 0).0 h
-  variant-zero (Ty.Int kind) variant e h = absurd (false≢true h)
-  variant-zero Ty.Bool variant e h = absurd (false≢true h)
-  variant-zero Ty.Unit variant e h = absurd (false≢true h)
-  variant-zero Ty.Never variant e h = absurd (false≢true h)
-  variant-zero (Ty.Boxed t) variant e h = absurd (false≢true h)
-  variant-zero (Ty.Dyn n) variant e h = absurd (false≢true h)
-  variant-zero (Ty.Shared t) variant e h = absurd (false≢true h)
-  variant-zero (Ty.Unique t) variant e h = absurd (false≢true h)
+  variant-zero other variant e h = absurd (false≢true h)
 
   -- the step to a part, and its type
   record FieldStep (ty : Ty) (variant n : ℕ) (f : DynamicType) : Type 0 where
@@ -215,17 +208,7 @@ module _ (items : ItemTable) where
   boxed-type None content h = absurd (none-some content h)
   boxed-type (Some (Ty.Boxed t)) content h =
       ap (λ t. Some (Ty.Boxed t)) (let x : Some t ≡ Some content = h in let y : t ≡ content = cc in y)
-  boxed-type (Some (Ty.Int kind)) content h = absurd (none-some content h)
-  boxed-type (Some Ty.Bool) content h = absurd (none-some content h)
-  boxed-type (Some Ty.Unit) content h = absurd (none-some content h)
-  boxed-type (Some Ty.Never) content h = absurd (none-some content h)
-  boxed-type (Some (Ty.Adt n)) content h = absurd (none-some content h)
-  boxed-type (Some (Ty.Tuple ts)) content h = absurd (none-some content h)
-  boxed-type (Some (Ty.Array t c)) content h = absurd (none-some content h)
-  boxed-type (Some (Ty.Dyn n)) content h = absurd (none-some content h)
-  boxed-type (Some (Ty.Shared t)) content h = absurd (none-some content h)
-  boxed-type (Some (Ty.Unique t)) content h = absurd (none-some content h)
-  boxed-type (Some (Ty.Closure n)) content h = absurd (none-some content h)
+  boxed-type (Some other) content h = absurd (none-some content h)
 
   module _ (numbered : TyId → Bool)
       (a_box : (id content : TyId) → type_at items id ≡ Some (Ty.Boxed content) → numbered id ≡ true)

@@ -158,18 +158,7 @@ statements_read heads (StmtLine stmt) behind stands =
     let (named, same) = none_named heads stmt stands.1 in
     stmt_back heads (stmt_text no_items stmt) stmt behind
     (stmt_reads (adt_no heads) (trait_no heads) no_items (no_adts heads) (no_traits heads) stmt stands.0 (unnamed heads stmt stands.1) behind) named same
-statements_read heads HeadLine behind stands = absurd stands
-statements_read heads (StructLine name fields copy drop_body) behind stands = absurd stands
-statements_read heads (EnumLine name variants copy drop_body) behind stands = absurd stands
-statements_read heads (TraitLine name methods) behind stands = absurd stands
-statements_read heads (ImplLine trait_called adt_called bodies) behind stands = absurd stands
-statements_read heads (ClosureLine n captures body) behind stands = absurd stands
-statements_read heads (BodyLine n name params) behind stands = absurd stands
-statements_read heads (LocalLine n ty) behind stands = absurd stands
-statements_read heads (BlockLine n kind rank) behind stands = absurd stands
-statements_read heads (VirtualLine to name method args next unwind) behind stands = absurd stands
-statements_read heads (TermLine term) behind stands = absurd stands
-statements_read heads EndLine behind stands = absurd stands
+statements_read heads other behind stands = absurd stands
 
 pub terminators_read : TerminatorsAreRead
 terminators_read heads (VirtualLine to name method args next unwind) behind stands =
@@ -180,19 +169,7 @@ terminators_read heads (TermLine term) behind stands =
     let (named, same) = none_sent heads term stands.1 in
     term_back heads (term_text no_items term) term behind
     (term_reads (adt_no heads) (trait_no heads) no_items (no_traits heads) term stands.0 (unsent heads term stands.1) behind) named same
-terminators_read heads HeadLine behind stands = absurd stands
-terminators_read heads (StructLine name fields copy drop_body) behind stands = absurd stands
-terminators_read heads (EnumLine name variants copy drop_body) behind stands = absurd stands
-terminators_read heads (TraitLine name methods) behind stands = absurd stands
-terminators_read heads (ImplLine trait_called adt_called bodies) behind stands = absurd stands
-terminators_read heads (ClosureLine n captures body) behind stands = absurd stands
-terminators_read heads (BodyLine n name params) behind stands = absurd stands
-terminators_read heads (LocalLine n ty) behind stands = absurd stands
-terminators_read heads (BlockLine n kind rank) behind stands = absurd stands
-terminators_read heads (MakeLine to name variant parts) behind stands = absurd stands
-terminators_read heads (UnsizeLine to name from) behind stands = absurd stands
-terminators_read heads (StmtLine stmt) behind stands = absurd stands
-terminators_read heads EndLine behind stands = absurd stands
+terminators_read heads other behind stands = absurd stands
 
 nothing_read : (heads : ItemTable) (words behind : List ℕ) → stmt_read (adt_no heads) (trait_no heads) (words ++ 10 ∷ behind) ≡ None → statement_read heads (line words ++ behind) ≡ None
 nothing_read heads words behind none =
@@ -203,16 +180,4 @@ no_statements heads (VirtualLine to name method args next unwind) behind stands 
     nothing_read heads (line_text (VirtualLine to name method args next unwind)) behind (no_virtual heads to name method args next unwind (10 ∷ behind) stands.0)
 no_statements heads (TermLine term) behind stands =
     nothing_read heads (term_text no_items term) behind (no_stmt (adt_no heads) (trait_no heads) no_items (no_traits heads) term stands.0 (10 ∷ behind))
-no_statements heads HeadLine behind stands = absurd stands
-no_statements heads (StructLine name fields copy drop_body) behind stands = absurd stands
-no_statements heads (EnumLine name variants copy drop_body) behind stands = absurd stands
-no_statements heads (TraitLine name methods) behind stands = absurd stands
-no_statements heads (ImplLine trait_called adt_called bodies) behind stands = absurd stands
-no_statements heads (ClosureLine n captures body) behind stands = absurd stands
-no_statements heads (BodyLine n name params) behind stands = absurd stands
-no_statements heads (LocalLine n ty) behind stands = absurd stands
-no_statements heads (BlockLine n kind rank) behind stands = absurd stands
-no_statements heads (MakeLine to name variant parts) behind stands = absurd stands
-no_statements heads (UnsizeLine to name from) behind stands = absurd stands
-no_statements heads (StmtLine stmt) behind stands = absurd stands
-no_statements heads EndLine behind stands = absurd stands
+no_statements heads other behind stands = absurd stands

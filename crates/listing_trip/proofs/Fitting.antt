@@ -112,14 +112,7 @@ module _ (items : ItemTable) (short : AreShort items) (counts : All TyFits items
       (let k = length-replicate many element in omega (arith, k, count))
   parts_few (Ty.Closure n) count own variant = of_one (captures_of (slice_get items.closures n)) variant
       (captures_few n)
-  parts_few (Ty.Int kind) count own variant = omega arith
-  parts_few Ty.Bool count own variant = omega arith
-  parts_few Ty.Unit count own variant = omega arith
-  parts_few Ty.Never count own variant = omega arith
-  parts_few (Ty.Boxed inside) count own variant = omega arith
-  parts_few (Ty.Dyn n) count own variant = omega arith
-  parts_few (Ty.Shared to) count own variant = omega arith
-  parts_few (Ty.Unique to) count own variant = omega arith
+  parts_few other count own variant = omega arith
 
   -- a step that leads somewhere has numbers that fit
   part_of : (form : Ty) → TyFits form → IsShort (types_in form) → (variant n : ℕ) →
@@ -157,17 +150,7 @@ module _ (items : ItemTable) (short : AreShort items) (counts : All TyFits items
           is_some (slice_get (fields_of (slice_get (variants_of o) variant)) n) ≡ true → Fits variant
       by None e h = absurd (false≢true h)
       by (Some adt) e h = variant_there adt (all_at AdtIsShort items.adts k adt short.in_adts e) variant n h
-  variant_of (Ty.Tuple parts) variant n enum h = absurd (false≢true enum)
-  variant_of (Ty.Array element many) variant n enum h = absurd (false≢true enum)
-  variant_of (Ty.Closure k) variant n enum h = absurd (false≢true enum)
-  variant_of (Ty.Int kind) variant n enum h = absurd (false≢true enum)
-  variant_of Ty.Bool variant n enum h = absurd (false≢true enum)
-  variant_of Ty.Unit variant n enum h = absurd (false≢true enum)
-  variant_of Ty.Never variant n enum h = absurd (false≢true enum)
-  variant_of (Ty.Boxed inside) variant n enum h = absurd (false≢true enum)
-  variant_of (Ty.Dyn k) variant n enum h = absurd (false≢true enum)
-  variant_of (Ty.Shared to) variant n enum h = absurd (false≢true enum)
-  variant_of (Ty.Unique to) variant n enum h = absurd (false≢true enum)
+  variant_of other variant n enum h = absurd (false≢true enum)
 
   -- the locals are few
   module _ (locals : List TyId) (few : length locals < 2 ^ 32 - 1) where

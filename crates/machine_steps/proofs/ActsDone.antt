@@ -37,16 +37,4 @@ acts_stopped action old new outcome never e h run before =
 pub stores_into : (w : World) (before : Trace) (stmt : Stmt) →
     stores_where (never_at (run_setting w) (state_of before w)) (action_of 0 stmt) ≡ option_map_or (λ (place : Place). never_at (run_setting w) (state_of [] w) (site_of 0 place)) (place_stored stmt) false
 stores_into w before (Stmt.Put to from) = refl
-stores_into w before (Stmt.Compare to operator left right) = refl
-stores_into w before (Stmt.Not to operand) = refl
-stores_into w before (Stmt.Tuple to parts) = refl
-stores_into w before (Stmt.Array to parts) = refl
-stores_into w before (Stmt.Make to adt variant parts) = refl
-stores_into w before (Stmt.Close to closure parts) = refl
-stores_into w before (Stmt.NewBox to content) = refl
-stores_into w before (Stmt.Unsize to trait_no from) = refl
-stores_into w before (Stmt.Borrow to unique base) = refl
-stores_into w before (Stmt.Touch place) = refl
-stores_into w before (Stmt.Print operand) = refl
-stores_into w before (Stmt.Forget operand) = refl
-stores_into w before (Stmt.Free place) = refl
+stores_into w before other = refl

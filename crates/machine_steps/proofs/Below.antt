@@ -38,19 +38,9 @@ with_value value s = record s { value = value }
 module _ (items : ItemTable) where
   type_kept : (step : At) (new root : Datum) (dynamic : DynamicType) → type_of_part items step (with_part step new root) dynamic ≡ type_of_part items step root dynamic
   type_kept (Part n) new (Aggregate variant serial parts) dynamic = refl
-  type_kept (Part n) new Gone dynamic = refl
-  type_kept (Part n) new (Number number) dynamic = refl
-  type_kept (Part n) new (Truth truth) dynamic = refl
-  type_kept (Part n) new UnitValue dynamic = refl
-  type_kept (Part n) new (Box serial impl_no inside) dynamic = refl
-  type_kept (Part n) new (Address address) dynamic = refl
   type_kept Inside new (Aggregate variant serial parts) dynamic = refl
-  type_kept Inside new Gone dynamic = refl
-  type_kept Inside new (Number number) dynamic = refl
-  type_kept Inside new (Truth truth) dynamic = refl
-  type_kept Inside new UnitValue dynamic = refl
-  type_kept Inside new (Box serial impl_no inside) dynamic = refl
-  type_kept Inside new (Address address) dynamic = refl
+  type_kept (Part n) new other dynamic = refl
+  type_kept Inside new other dynamic = refl
 
   abbrev below : Addr → At → Addr
   below address step = record address { path = address.path ++ step ∷ [] }

@@ -33,12 +33,7 @@ HasNoVariant value = Unit {0}
 module _ (setting : Setting) (count : ℕ) (w : World) where
   bounded_number : (value : Datum) (number : ℤ) → number_of value ≡ Some number → (v : State) → bounded setting count value v ≡ within_bounds setting (int_lt number (pos count)) v
   bounded_number (Number n) number e v = let same : n ≡ number = cc in ap (λ n. within_bounds setting (int_lt n (pos count)) v) same
-  bounded_number Gone number e v = absurd (cc)
-  bounded_number (Truth truth) number e v = absurd (cc)
-  bounded_number UnitValue number e v = absurd (cc)
-  bounded_number (Aggregate variant serial parts) number e v = absurd (cc)
-  bounded_number (Box serial impl_no inside) number e v = absurd (cc)
-  bounded_number (Address address) number e v = absurd (cc)
+  bounded_number other number e v = absurd (cc)
 
   pub index_within : (value : Datum) (number : ℤ) → number_of value ≡ Some number → int_lt number (pos count) ≡ true → Does (bounded setting count value) w Outcome.Goes w
   index_within value number e l before = ap seen (bounded_number value number e (state_of before w) ∙ ap (λ b. within_bounds setting b (state_of before w)) l)
@@ -50,12 +45,7 @@ module _ (setting : Setting) (count : ℕ) (w : World) where
 
   pub no_index : (value : Datum) → number_of value ≡ None → Does (bounded setting count value) w Outcome.Stuck w
   no_index (Number n) e before = absurd (cc)
-  no_index Gone e before = refl
-  no_index (Truth truth) e before = refl
-  no_index UnitValue e before = refl
-  no_index (Aggregate variant serial parts) e before = refl
-  no_index (Box serial impl_no inside) e before = refl
-  no_index (Address address) e before = refl
+  no_index other e before = refl
 
 -- Asking.
 
@@ -82,12 +72,7 @@ module _ (old mid : World) (operand : Operand) (taken : Option Value) (gave : (b
   truth_chosen_by : (w : State) (value : Datum) (o : Option Bool) → truth_of value ≡ o → (v : State) → v.trace ≡ w.trace → seen_choice (chosen_truth (run_setting old) (Some (value, v)) w) ≡ leaves_choice o v
   truth_chosen_by w (Truth true) o e v t = ap (λ o. leaves_choice o v) e
   truth_chosen_by w (Truth false) o e v t = ap (λ o. leaves_choice o v) e
-  truth_chosen_by w Gone o e v t = ap (NotChosen Stuck) (sym t) ∙ ap (λ o. leaves_choice o v) e
-  truth_chosen_by w (Number number) o e v t = ap (NotChosen Stuck) (sym t) ∙ ap (λ o. leaves_choice o v) e
-  truth_chosen_by w UnitValue o e v t = ap (NotChosen Stuck) (sym t) ∙ ap (λ o. leaves_choice o v) e
-  truth_chosen_by w (Aggregate variant serial parts) o e v t = ap (NotChosen Stuck) (sym t) ∙ ap (λ o. leaves_choice o v) e
-  truth_chosen_by w (Box serial impl_no inside) o e v t = ap (NotChosen Stuck) (sym t) ∙ ap (λ o. leaves_choice o v) e
-  truth_chosen_by w (Address address) o e v t = ap (NotChosen Stuck) (sym t) ∙ ap (λ o. leaves_choice o v) e
+  truth_chosen_by w other o e v t = ap (NotChosen Stuck) (sym t) ∙ ap (λ o. leaves_choice o v) e
 
   pub truth_chosen : (value : Value) (o : Option Bool) → taken ≡ Some value → truth_of (datum_of value) ≡ o → Chooses (actions.IsTrue (operand_of 0 operand)) old o mid
   truth_chosen value o e is before =
@@ -123,13 +108,8 @@ module _ (w : World) (on : Place) (variant : ℕ) where
   no_variant s e h = variant_chosen (Reaches s) e None (λ v. by s.value h v)
     where
       by : (value : Datum) → HasNoVariant value → (v : State) → seen_choice (variant_tested (run_setting w) variant value v) ≡ leaves_choice None v
-      by Gone h v = refl
-      by (Number number) h v = refl
-      by (Truth truth) h v = refl
-      by UnitValue h v = refl
-      by (Box serial impl_no inside) h v = refl
-      by (Address address) h v = refl
       by (Aggregate active serial parts) h v = absurd h
+      by other h v = refl
 
   pub cut_off : reach (setting_of true w.graph.now) (with_activations (state_of [] w).activations) (site_of 0 on).place ≡ CutOff → Chooses (actions.HasVariant (site_of 0 on) variant) w None w
   cut_off e = variant_chosen CutOff e None (λ v. refl)

@@ -165,12 +165,7 @@ module _ (setting : Setting) (run : Bodies) (depth key : ℕ) where
       by_value (Box serial impl_no inside) s a k =
           let same : with_event (Event.Freed serial) (stored_at s.address Gone w) ≡ v = cc in
           (ap (λ (v : State). v.ticks) (sym same), ap (λ (v : State). v.activations) (sym same) ∙ ap (λ a. (stored_at a Gone w).activations) a)
-      by_value Gone s a k = absurd (cc)
-      by_value (Number number) s a k = absurd (cc)
-      by_value (Truth truth) s a k = absurd (cc)
-      by_value UnitValue s a k = absurd (cc)
-      by_value (Aggregate variant serial parts) s a k = absurd (cc)
-      by_value (Address address) s a k = absurd (cc)
+      by_value other s a k = absurd (cc)
 
       by_test : (s : Located) → located_at setting w (at_path setting run depth key path) ≡ Some s → (b : Bool) → same_if b (λ w. freed_there setting run s.value s w) w ≡ Go v →
           (v.ticks ≡ w.ticks) × (v.activations ≡ (stored_at (at_path setting run depth key path) Gone w).activations)

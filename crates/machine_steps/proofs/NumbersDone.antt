@@ -36,28 +36,13 @@ pub computes_by : (setting : Setting) (to : EffectSite) (operator : Math) (kind 
     compute setting to operator kind left right w ≡ puts_if setting to (computation operator kind left right) w
 computes_by setting to operator None left right w = refl
 computes_by setting to operator (Some kind) (Number a) (Number b) w = refl
-computes_by setting to operator (Some kind) (Number a) Gone w = refl
-computes_by setting to operator (Some kind) (Number a) (Truth truth) w = refl
-computes_by setting to operator (Some kind) (Number a) UnitValue w = refl
-computes_by setting to operator (Some kind) (Number a) (Aggregate variant serial parts) w = refl
-computes_by setting to operator (Some kind) (Number a) (Box serial impl_no inside) w = refl
-computes_by setting to operator (Some kind) (Number a) (Address address) w = refl
-computes_by setting to operator (Some kind) Gone right w = refl
-computes_by setting to operator (Some kind) (Truth truth) right w = refl
-computes_by setting to operator (Some kind) UnitValue right w = refl
-computes_by setting to operator (Some kind) (Aggregate variant serial parts) right w = refl
-computes_by setting to operator (Some kind) (Box serial impl_no inside) right w = refl
-computes_by setting to operator (Some kind) (Address address) right w = refl
+computes_by setting to operator (Some kind) (Number a) other w = refl
+computes_by setting to operator (Some kind) other right w = refl
 
 pub negates_by : (setting : Setting) (to : EffectSite) (kind : Option IntKind) (value : Datum) (w : State) → negate setting to kind value w ≡ puts_if setting to (negation kind value) w
 negates_by setting to None value w = refl
 negates_by setting to (Some kind) (Number a) w = refl
-negates_by setting to (Some kind) Gone w = refl
-negates_by setting to (Some kind) (Truth truth) w = refl
-negates_by setting to (Some kind) UnitValue w = refl
-negates_by setting to (Some kind) (Aggregate variant serial parts) w = refl
-negates_by setting to (Some kind) (Box serial impl_no inside) w = refl
-negates_by setting to (Some kind) (Address address) w = refl
+negates_by setting to (Some kind) other w = refl
 
 module _ (setting : Setting) (run : Bodies) (to : EffectSite) where
   pub acts_computing : (operator : Math) (left right : Operand) (w : State) → acted setting run (actions.Compute to operator (operand_of 0 left) (operand_of 0 right)) w

@@ -98,21 +98,11 @@ module _ (setting : Setting) (to : EffectSite) (old new : World) (outcome : Outc
     where
       go : (value : Datum) → truth_of value ≡ Some truth → Does (other_truth setting to value) old outcome new
       go (Truth b) e = let same : b ≡ truth = cc in subst (λ t. Does (put setting to (Truth (not t))) old outcome new) (sym same) h
-      go Gone e = absurd (cc)
-      go (Number number) e = absurd (cc)
-      go UnitValue e = absurd (cc)
-      go (Aggregate variant serial parts) e = absurd (cc)
-      go (Box serial impl_no inside) e = absurd (cc)
-      go (Address address) e = absurd (cc)
+      go other e = absurd (cc)
 
 pub no_other : (setting : Setting) (to : EffectSite) (w : World) (value : Datum) → truth_of value ≡ None → Does (other_truth setting to value) w Outcome.Stuck w
 no_other setting to w (Truth b) e before = absurd (cc)
-no_other setting to w Gone e before = refl
-no_other setting to w (Number number) e before = refl
-no_other setting to w UnitValue e before = refl
-no_other setting to w (Aggregate variant serial parts) e before = refl
-no_other setting to w (Box serial impl_no inside) e before = refl
-no_other setting to w (Address address) e before = refl
+no_other setting to w other e before = refl
 
 pub datum_of_truth : (truth : Bool) → datum_of (Value.Bool truth) ≡ Truth truth
 datum_of_truth truth = ap datum_of (sym (rolls-Bool truth)) ∙ fold-roll-Value Datum datum_of_layer (Value-F.Bool truth)
@@ -137,21 +127,11 @@ pub number_printed : (setting : Setting) (w : World) (new : World) (value : Datu
 number_printed setting w new (Number n) number shown e told same before =
     let is : n ≡ number = cc in
     ap (λ k. Goes (with_event (Event.Printed k) (state_of before w))) (is ∙ sym same) ∙ ap Goes (sym (told before))
-number_printed setting w new Gone number shown e told same before = absurd (cc)
-number_printed setting w new (Truth truth) number shown e told same before = absurd (cc)
-number_printed setting w new UnitValue number shown e told same before = absurd (cc)
-number_printed setting w new (Aggregate variant serial parts) number shown e told same before = absurd (cc)
-number_printed setting w new (Box serial impl_no inside) number shown e told same before = absurd (cc)
-number_printed setting w new (Address address) number shown e told same before = absurd (cc)
+number_printed setting w new other number shown e told same before = absurd (cc)
 
 pub nothing_printed : (setting : Setting) (w : World) (value : Datum) → number_of value ≡ None → Does (printed setting value) w Outcome.Stuck w
 nothing_printed setting w (Number n) e before = absurd (cc)
-nothing_printed setting w Gone e before = refl
-nothing_printed setting w (Truth truth) e before = refl
-nothing_printed setting w UnitValue e before = refl
-nothing_printed setting w (Aggregate variant serial parts) e before = refl
-nothing_printed setting w (Box serial impl_no inside) e before = refl
-nothing_printed setting w (Address address) e before = refl
+nothing_printed setting w other e before = refl
 
 -- What is told after a value was stored.
 
@@ -209,70 +189,30 @@ module _ (old mid last : World) (left right : Operand) (t u : Option Value) (fir
 
 number_pair : (operator : Cmp) (a b : ℤ) → compared operator (Number a) (Number b) ≡ Some (compared_as operator a b)
 number_pair Cmp.Eq a b = refl
-number_pair Cmp.Ne a b = refl
-number_pair Cmp.Lt a b = refl
-number_pair Cmp.Le a b = refl
-number_pair Cmp.Gt a b = refl
-number_pair Cmp.Ge a b = refl
+number_pair other a b = refl
 
 pub numbers_compared : (operator : Cmp) (left right : Datum) (a b : ℤ) → number_of left ≡ Some a → number_of right ≡ Some b → compared operator left right ≡ Some (compared_as operator a b)
 numbers_compared operator (Number n) (Number m) a b e f =
     let same : n ≡ a = cc in
     let other : m ≡ b = cc in
     number_pair operator n m ∙ ap (λ n. Some (compared_as operator n m)) same ∙ ap (λ m. Some (compared_as operator a m)) other
-numbers_compared operator (Number n) Gone a b e f = absurd (cc)
-numbers_compared operator (Number n) (Truth truth) a b e f = absurd (cc)
-numbers_compared operator (Number n) UnitValue a b e f = absurd (cc)
-numbers_compared operator (Number n) (Aggregate variant serial parts) a b e f = absurd (cc)
-numbers_compared operator (Number n) (Box serial impl_no inside) a b e f = absurd (cc)
-numbers_compared operator (Number n) (Address address) a b e f = absurd (cc)
-numbers_compared operator Gone right a b e f = absurd (cc)
-numbers_compared operator (Truth truth) right a b e f = absurd (cc)
-numbers_compared operator UnitValue right a b e f = absurd (cc)
-numbers_compared operator (Aggregate variant serial parts) right a b e f = absurd (cc)
-numbers_compared operator (Box serial impl_no inside) right a b e f = absurd (cc)
-numbers_compared operator (Address address) right a b e f = absurd (cc)
+numbers_compared operator (Number n) other a b e f = absurd (cc)
+numbers_compared operator other right a b e f = absurd (cc)
 
 pub no_number_compared : (operator : Cmp) (left right : Datum) (a : ℤ) → number_of left ≡ Some a → number_of right ≡ None → compared operator left right ≡ None
 no_number_compared operator (Number n) (Number m) a e f = absurd (cc)
-no_number_compared operator (Number n) Gone a e f = refl
-no_number_compared operator (Number n) (Truth truth) a e f = refl
-no_number_compared operator (Number n) UnitValue a e f = refl
-no_number_compared operator (Number n) (Aggregate variant serial parts) a e f = refl
-no_number_compared operator (Number n) (Box serial impl_no inside) a e f = refl
-no_number_compared operator (Number n) (Address address) a e f = refl
-no_number_compared operator Gone right a e f = absurd (cc)
-no_number_compared operator (Truth truth) right a e f = absurd (cc)
-no_number_compared operator UnitValue right a e f = absurd (cc)
-no_number_compared operator (Aggregate variant serial parts) right a e f = absurd (cc)
-no_number_compared operator (Box serial impl_no inside) right a e f = absurd (cc)
-no_number_compared operator (Address address) right a e f = absurd (cc)
+no_number_compared operator (Number n) other a e f = refl
+no_number_compared operator other right a e f = absurd (cc)
 
 truth_number : (operator : Cmp) (a b : Bool) → compared operator (Truth a) (Truth b) ≡ Some (compared_as operator (number_by_truth a) (number_by_truth b))
 truth_number Cmp.Eq true true = refl
 truth_number Cmp.Eq true false = refl
 truth_number Cmp.Eq false true = refl
 truth_number Cmp.Eq false false = refl
-truth_number Cmp.Ne true true = refl
-truth_number Cmp.Ne true false = refl
-truth_number Cmp.Ne false true = refl
-truth_number Cmp.Ne false false = refl
-truth_number Cmp.Lt true true = refl
-truth_number Cmp.Lt true false = refl
-truth_number Cmp.Lt false true = refl
-truth_number Cmp.Lt false false = refl
-truth_number Cmp.Le true true = refl
-truth_number Cmp.Le true false = refl
-truth_number Cmp.Le false true = refl
-truth_number Cmp.Le false false = refl
-truth_number Cmp.Gt true true = refl
-truth_number Cmp.Gt true false = refl
-truth_number Cmp.Gt false true = refl
-truth_number Cmp.Gt false false = refl
-truth_number Cmp.Ge true true = refl
-truth_number Cmp.Ge true false = refl
-truth_number Cmp.Ge false true = refl
-truth_number Cmp.Ge false false = refl
+truth_number other true true = refl
+truth_number other true false = refl
+truth_number other false true = refl
+truth_number other false false = refl
 
 pub truths_compared : (operator : Cmp) (left right : Datum) (a b : Bool) → truth_of left ≡ Some a → truth_of right ≡ Some b →
     compared operator left right ≡ Some (compared_as operator (number_by_truth a) (number_by_truth b))
@@ -281,33 +221,13 @@ truths_compared operator (Truth n) (Truth m) a b e f =
     let other : m ≡ b = cc in
     truth_number operator n m ∙ ap (λ n. Some (compared_as operator (number_by_truth n) (number_by_truth m))) same
     ∙ ap (λ m. Some (compared_as operator (number_by_truth a) (number_by_truth m))) other
-truths_compared operator (Truth n) Gone a b e f = absurd (cc)
-truths_compared operator (Truth n) (Number number) a b e f = absurd (cc)
-truths_compared operator (Truth n) UnitValue a b e f = absurd (cc)
-truths_compared operator (Truth n) (Aggregate variant serial parts) a b e f = absurd (cc)
-truths_compared operator (Truth n) (Box serial impl_no inside) a b e f = absurd (cc)
-truths_compared operator (Truth n) (Address address) a b e f = absurd (cc)
-truths_compared operator Gone right a b e f = absurd (cc)
-truths_compared operator (Number number) right a b e f = absurd (cc)
-truths_compared operator UnitValue right a b e f = absurd (cc)
-truths_compared operator (Aggregate variant serial parts) right a b e f = absurd (cc)
-truths_compared operator (Box serial impl_no inside) right a b e f = absurd (cc)
-truths_compared operator (Address address) right a b e f = absurd (cc)
+truths_compared operator (Truth n) other a b e f = absurd (cc)
+truths_compared operator other right a b e f = absurd (cc)
 
 pub no_truth_compared : (operator : Cmp) (left right : Datum) (a : Bool) → truth_of left ≡ Some a → truth_of right ≡ None → compared operator left right ≡ None
 no_truth_compared operator (Truth n) (Truth m) a e f = absurd (cc)
-no_truth_compared operator (Truth n) Gone a e f = refl
-no_truth_compared operator (Truth n) (Number number) a e f = refl
-no_truth_compared operator (Truth n) UnitValue a e f = refl
-no_truth_compared operator (Truth n) (Aggregate variant serial parts) a e f = refl
-no_truth_compared operator (Truth n) (Box serial impl_no inside) a e f = refl
-no_truth_compared operator (Truth n) (Address address) a e f = refl
-no_truth_compared operator Gone right a e f = absurd (cc)
-no_truth_compared operator (Number number) right a e f = absurd (cc)
-no_truth_compared operator UnitValue right a e f = absurd (cc)
-no_truth_compared operator (Aggregate variant serial parts) right a e f = absurd (cc)
-no_truth_compared operator (Box serial impl_no inside) right a e f = absurd (cc)
-no_truth_compared operator (Address address) right a e f = absurd (cc)
+no_truth_compared operator (Truth n) other a e f = refl
+no_truth_compared operator other right a e f = absurd (cc)
 
 pub nothing_compared : (operator : Cmp) (left right : Datum) → number_of left ≡ None → truth_of left ≡ None → compared operator left right ≡ None
 nothing_compared operator (Number n) right e f = absurd (cc)

@@ -44,12 +44,7 @@ part_past (a_part first rest) (suc n) h = part_past rest n (omega arith)
 
 no_part_past : (value : Datum) (n : ℕ) → count_of_parts value ≤ n → part (Part n) value ≡ None
 no_part_past (Aggregate variant serial parts) n h = part_past parts n h
-no_part_past (Box serial impl_no inside) n h = refl
-no_part_past Gone n h = refl
-no_part_past (Number number) n h = refl
-no_part_past (Truth truth) n h = refl
-no_part_past UnitValue n h = refl
-no_part_past (Address address) n h = refl
+no_part_past other n h = refl
 
 into_past : (items : ItemTable) (n : ℕ) (s : Located) → count_of_parts s.value ≤ n → into items (Part n) s ≡ None
 into_past items n s h = rw (no_part_past s.value n h) refl
@@ -57,21 +52,11 @@ into_past items n s h = rw (no_part_past s.value n h) refl
 -- an element stands under a number
 pub element_under : (items : ItemTable) (index : Datum) (number : ℤ) (s : Located) → number_of index ≡ Some number → into_element_found items (Number number) s ≡ into_element_found items index s
 element_under items (Number n) number s e = let same : n ≡ number = cc in ap (λ n. into_element_found items (Number n) s) (sym same)
-element_under items Gone number s e = absurd (cc)
-element_under items (Truth truth) number s e = absurd (cc)
-element_under items UnitValue number s e = absurd (cc)
-element_under items (Aggregate variant serial parts) number s e = absurd (cc)
-element_under items (Box serial impl_no inside) number s e = absurd (cc)
-element_under items (Address address) number s e = absurd (cc)
+element_under items other number s e = absurd (cc)
 
 pub no_number : (items : ItemTable) (index : Datum) (s : Located) → number_of index ≡ None → Nowhere ≡ into_element_found items index s
 no_number items (Number n) s e = absurd (cc)
-no_number items Gone s e = refl
-no_number items (Truth truth) s e = refl
-no_number items UnitValue s e = refl
-no_number items (Aggregate variant serial parts) s e = refl
-no_number items (Box serial impl_no inside) s e = refl
-no_number items (Address address) s e = refl
+no_number items other s e = refl
 
 -- no element stands past the end
 pub no_element : (items : ItemTable) (index : Datum) (number : ℤ) (s : Located) → number_of index ≡ Some number → ((n : ℕ) → number ≡ pos n → count_of_parts s.value ≤ n) →

@@ -54,19 +54,9 @@ some_not_none a o e h = absurd (cc)
 -- what has a part is not gone when the part is changed
 with_part_stands : (step : At) (new root inner : Datum) → part step root ≡ Some inner → with_part step new root ≡ Gone → ⊥
 with_part_stands (Part n) new (Aggregate variant serial parts) inner e h = absurd (cc)
-with_part_stands (Part n) new (Box serial impl_no inside) inner e h = absurd (cc)
-with_part_stands (Part n) new Gone inner e h = absurd (cc)
-with_part_stands (Part n) new (Number number) inner e h = absurd (cc)
-with_part_stands (Part n) new (Truth truth) inner e h = absurd (cc)
-with_part_stands (Part n) new UnitValue inner e h = absurd (cc)
-with_part_stands (Part n) new (Address address) inner e h = absurd (cc)
 with_part_stands Inside new (Aggregate variant serial parts) inner e h = absurd (cc)
-with_part_stands Inside new (Box serial impl_no inside) inner e h = absurd (cc)
-with_part_stands Inside new Gone inner e h = absurd (cc)
-with_part_stands Inside new (Number number) inner e h = absurd (cc)
-with_part_stands Inside new (Truth truth) inner e h = absurd (cc)
-with_part_stands Inside new UnitValue inner e h = absurd (cc)
-with_part_stands Inside new (Address address) inner e h = absurd (cc)
+with_part_stands (Part n) new other inner e h = absurd (cc)
+with_part_stands Inside new other inner e h = absurd (cc)
 
 -- what stands above a place of a value that stands is not gone when the place is changed
 container_stands : (step : At) (path : List At) (new root old : Datum) → value_at (step ∷ path) root ≡ Some old → replaced (step ∷ path) new root ≡ Gone → ⊥

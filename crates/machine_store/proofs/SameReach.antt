@@ -25,12 +25,7 @@ module _ (strict : Bool) (graph : Graph) (w : State) where
   module _ (cells : Cells) where
     through_same : (value : Datum) (s : Located) → through_found (setting_of strict graph) w cells value s ≡ through_found (setting_of true graph) (with_activations w.activations) cells value s
     through_same (Address address) s = ap (by_reference_found graph.items (named_by_found (concrete_ty graph.items s.dynamic))) (located_same address)
-    through_same (Box serial impl_no inside) s = refl
-    through_same Gone s = refl
-    through_same (Number number) s = refl
-    through_same (Truth truth) s = refl
-    through_same UnitValue s = refl
-    through_same (Aggregate variant serial parts) s = refl
+    through_same other s = refl
 
     follow_same : (step : Step) (s : Located) → follow_found (setting_of strict graph) w cells step s ≡ follow_found (setting_of true graph) (with_activations w.activations) cells step s
     follow_same (ToPart n) s = refl
@@ -41,12 +36,7 @@ module _ (strict : Bool) (graph : Graph) (w : State) where
     follow_from_same : (step : Step) (value : Datum) (s : Located) →
         follow_from_found (setting_of strict graph) w cells step value s ≡ follow_from_found (setting_of true graph) (with_activations w.activations) cells step value s
     follow_from_same step Gone s = refl
-    follow_from_same step (Number number) s = follow_same step s
-    follow_from_same step (Truth truth) s = follow_same step s
-    follow_from_same step UnitValue s = follow_same step s
-    follow_from_same step (Aggregate variant serial parts) s = follow_same step s
-    follow_from_same step (Box serial impl_no inside) s = follow_same step s
-    follow_from_same step (Address address) s = follow_same step s
+    follow_from_same step other s = follow_same step s
 
     along_same : (steps : List Step) (s : Located) → along_found (setting_of strict graph) w cells steps s ≡ along_found (setting_of true graph) (with_activations w.activations) cells steps s
     along_same [] s = refl

@@ -68,22 +68,11 @@ module _ (activations : List Activation) (items : ItemTable) where
 
   field_stands : (variant n : ℕ) (value : Datum) (s : Located) → Stands activations s → ReachesStanding activations (into_field_found items variant n value s)
   field_stands variant n (Aggregate active serial parts) s h = if_stands (variant == active) (into items (Part n) s) (into_stands (Part n) s h)
-  field_stands variant n Gone s h = tt
-  field_stands variant n (Number number) s h = tt
-  field_stands variant n (Truth truth) s h = tt
-  field_stands variant n UnitValue s h = tt
-  field_stands variant n (Box serial impl_no inside) s h = tt
-  field_stands variant n (Address address) s h = tt
+  field_stands variant n other s h = tt
 
   element_stands : (index : Datum) (s : Located) → Stands activations s → ReachesStanding activations (into_element_found items index s)
   element_stands (Number (pos n)) s h = reached_stands (into items (Part n) s) (into_stands (Part n) s h)
-  element_stands (Number (negsuc n)) s h = tt
-  element_stands Gone s h = tt
-  element_stands (Truth truth) s h = tt
-  element_stands UnitValue s h = tt
-  element_stands (Aggregate variant serial parts) s h = tt
-  element_stands (Box serial impl_no inside) s h = tt
-  element_stands (Address address) s h = tt
+  element_stands other s h = tt
 
 module _ (setting : Setting) (w : State) where
   root_stands : (a : Activation) (depth key : ℕ) → at_depth depth w.activations ≡ Some a → (ty : Option TyId) → AllStand w.activations (located_root_found depth key a.cells ty)
@@ -117,12 +106,7 @@ module _ (setting : Setting) (w : State) where
 
   follow_from_stands : (cells : Cells) (step : Step) (value : Datum) (s : Located) → Stands w.activations s → ReachesStanding w.activations (follow_from_found setting w cells step value s)
   follow_from_stands cells step Gone s h = tt
-  follow_from_stands cells step (Number number) s h = follow_stands cells step s h
-  follow_from_stands cells step (Truth truth) s h = follow_stands cells step s h
-  follow_from_stands cells step UnitValue s h = follow_stands cells step s h
-  follow_from_stands cells step (Aggregate variant serial parts) s h = follow_stands cells step s h
-  follow_from_stands cells step (Box serial impl_no inside) s h = follow_stands cells step s h
-  follow_from_stands cells step (Address address) s h = follow_stands cells step s h
+  follow_from_stands cells step other s h = follow_stands cells step s h
 
   on_reached_stands : (f : Located → Reached) → ((s : Located) → Stands w.activations s → ReachesStanding w.activations (f s)) → (r : Reached) → ReachesStanding w.activations r →
       ReachesStanding w.activations (on_reached r f CutOff Nowhere)

@@ -1,10 +1,10 @@
 -- A place is reached alike in states whose locals hold the same.
 use Rattle.std.proofs.Common.{◌≡◌, ℕ, List, [], ◌∷◌, length, Option, Some, None, refl, ap, ◌∙◌}
 use Rattle.mir_ty.specs.declared.ty.TyId.{TyId}
-use Rattle.store_model.specs.Values.Datum.{Datum, Gone, Number, Truth, UnitValue, Aggregate, Box, Address}
+use Rattle.store_model.specs.Values.Datum.{Datum, Gone, Address}
 use Rattle.store_model.specs.Places.Place.{Step, ToPart, ToField, ToContent, ToElement, Place}
 use Rattle.store_model.specs.Concrete.Location.{Setting, Located, Reached, Reaches, CutOff, Nowhere, on_reached, reach_of, located_root, named_by, concrete_ty, by_reference, into_element, through, follow, follow_from, along, in_youngest, reach}
-use Rattle.store_model.specs.Concrete.State.{State, Activation, Cells, cell}
+use Rattle.store_model.specs.Concrete.State.{State, Activation, Cells}
 use Rattle.soundness_values.specs.Frames.{SameCells, Alike, none_runs, one_runs}
 use Rattle.soundness_values.proofs.Standings.{alike_length, alike_located}
 
@@ -14,12 +14,7 @@ module _ (setting : Setting) (w v : State) (alike : Alike w.activations v.activa
     through_alike (Address address) s =
         ap (by_reference setting.items (named_by (concrete_ty setting.items s.dynamic)))
         (alike_located setting w v alike address)
-    through_alike (Box serial impl_no inside) s = refl
-    through_alike Gone s = refl
-    through_alike (Number number) s = refl
-    through_alike (Truth truth) s = refl
-    through_alike UnitValue s = refl
-    through_alike (Aggregate variant serial parts) s = refl
+    through_alike other s = refl
 
     follow_alike : (step : Step) (s : Located) → follow setting w a step s ≡ follow setting v b step s
     follow_alike (ToPart n) s = refl
@@ -30,12 +25,7 @@ module _ (setting : Setting) (w v : State) (alike : Alike w.activations v.activa
     further_alike : (step : Step) (d : Datum) (s : Located) →
         follow_from setting w a step d s ≡ follow_from setting v b step d s
     further_alike step Gone s = refl
-    further_alike step (Number number) s = follow_alike step s
-    further_alike step (Truth truth) s = follow_alike step s
-    further_alike step UnitValue s = follow_alike step s
-    further_alike step (Aggregate variant serial parts) s = follow_alike step s
-    further_alike step (Box serial impl_no inside) s = follow_alike step s
-    further_alike step (Address address) s = follow_alike step s
+    further_alike step other s = follow_alike step s
 
     along_alike : (steps : List Step) (s : Located) → along setting w a steps s ≡ along setting v b steps s
     along_alike [] s = refl

@@ -1,45 +1,42 @@
 -- The tests of a pattern are answered as the pattern takes what stands at its place, and an arm is taken exactly then: by
 -- induction on the pattern, with the value and its type.
-use Rattle.std.proofs.Common.{◌≡◌, ℕ, zero, suc, ℤ, ◌+◌, ◌==◌, ◌<◌, ◌&&◌, ◌||◌, not, nat_lt, Bool, true, false, List, [], ◌∷◌, ◌++◌, length, replicate, IsTrue, Option, Some, None, if◌then◌else◌, refl, ap, sym, ◌∙◌, subst, arith}
-use Rattle.std.specs.Prelude.{slice_get, option_and_then}
-use Rattle.std.specs.Option.{option_map_or}
-use Rattle.std.proofs.lemmas.Bool.{false≢true, ltb-true}
+use Rattle.std.proofs.Common.{◌≡◌, ℕ, suc, ℤ, ◌+◌, ◌==◌, ◌&&◌, not, Bool, true, false, List, [], ◌∷◌, replicate, IsTrue, Option, Some, None, if◌then◌else◌, refl, ap, sym, ◌∙◌, subst, arith}
+use Rattle.std.specs.Prelude.{slice_get}
+use Rattle.std.proofs.lemmas.Bool.{false≢true}
 use Rattle.std.proofs.lemmas.Bool.Decides.{Decides-eqb}
 use Rattle.std.proofs.lemmas.Option.{none-some}
-use Rattle.mir_base.specs.declared.int_kind.IntKind.{IntKind}
 use Rattle.mir_base.specs.declared.operator.Cmp.{Cmp}
 use Rattle.mir_base.specs.declared.place_in_text.Pos.{Pos}
 use Rattle.mir_ty.specs.declared.ty.Ty.{Ty}
 use Rattle.mir_ty.specs.declared.ty.TyId.{TyId}
 use Rattle.mir_ty.specs.ItemTable.{ItemTable, type_at}
 use Rattle.mir_ty.specs.Facts.{has_drop_impl}
-use Rattle.mir_ty.specs.Parts.{field_ty, parts_of, of_one_variant}
-use Rattle.store_model.specs.declared.address.At.TheVariants.{Part}
-use Rattle.store_model.specs.Values.Datum.{Datum, Data, Number, Truth, Aggregate, no_part}
+use Rattle.mir_ty.specs.Parts.{field_ty, parts_of}
+use Rattle.store_model.specs.Values.Datum.{Datum, Number, Truth}
 use Rattle.store_model.specs.Values.Wholeness.{is_whole}
 use Rattle.store_model.specs.Abstract.Presence.{is_present}
 use Rattle.store_model.specs.Effects as effects
-use Rattle.store_model.specs.Effects.{EffectSite, Operand, Out, Go, Choice, Yes, No, Neither, Effects}
-use Rattle.store_model.specs.Places.Place.{Step, ToPart, ToField, Place, whole_local}
+use Rattle.store_model.specs.Effects.{Operand, Choice, Yes, No, Neither, Effects}
+use Rattle.store_model.specs.Places.Place.{Step, ToPart, ToField, Place}
 use Rattle.store_model.specs.Places.TypeForms.{is_dyn, is_never, is_bool}
-use Rattle.store_model.specs.Concrete.Effects.{act, compared, compared_numbers, number_of_truth, choose, chosen_if, whole, whole_at, evaluate_operand, if_so, variant_tested}
-use Rattle.store_model.specs.Concrete.Location.{Setting, DynamicType, OfType, Located, Reached, Reaches, on_reached, concrete_ty, type_of_part, type_of_field, reach}
-use Rattle.store_model.specs.Concrete.State.{State, Activation, Bodies, Cells, cell}
+use Rattle.store_model.specs.Concrete.Effects.{act, compared, compared_numbers, number_of_truth, chosen_if, whole, evaluate_operand, if_so, variant_tested}
+use Rattle.store_model.specs.Concrete.Location.{Setting, Located, Reaches, on_reached, concrete_ty, reach}
+use Rattle.store_model.specs.Concrete.State.{State, Activation, Bodies, Cells}
 use Rattle.typed_tree.specs.declared.node.Use.{Use}
 use Rattle.typed_tree.specs.Tree as tree
-use Rattle.typed_tree.specs.Tree.{Node, node, Form, Nodes, no_node, a_node, Fields, no_field, a_field, MaybeNode}
+use Rattle.typed_tree.specs.Tree.{Node, node, Form, Nodes, no_node, a_node, Fields, no_field, a_field}
 use Rattle.src_meaning.specs.Evaluation.{meaning, meaning_if_any}
 use Rattle.src_meaning.specs.Forms as forms
-use Rattle.src_meaning.specs.Forms.{Destination, LoopsAndGuards, Meaning, holds, all_hold, any_holds, tests_after, tested, moved, guarded, taken_arm}
+use Rattle.src_meaning.specs.Forms.{holds, all_hold, any_holds, tested, moved, guarded, taken_arm}
 use Rattle.src_meaning.specs.Locals.Effects.{place_at, site_at, operand_at}
 use Rattle.src_meaning.specs.Locals.OfBody.{cells, cells_of_fields, all_cells, bool_ty}
-use Rattle.src_meaning.specs.Scopes.{Entry, Scopes, Does, Run, chosen, choosing}
-use Rattle.src_meaning.specs.Shape.{NodeHead, Shape, head, kind_of, extended, followed_by, IsVariant, PatternTests, no_test, a_test, shape, shape_of, in_fields, in_parts, alternatives_at}
+use Rattle.src_meaning.specs.Scopes.{Entry, Run, chosen, choosing}
+use Rattle.src_meaning.specs.Shape.{Shape, head, kind_of, extended, IsVariant, shape, shape_of, in_fields, in_parts, alternatives_at}
 use Rattle.src_meaning.specs.Takes.{takes, takes_by, takes_fields, takes_parts, any_takes, is_of_variant, is_equal}
 use Rattle.src_meaning.specs.Takes as taking
 use Rattle.well_typed.specs.Claim.{Claim, Holds, some}
 use Rattle.well_typed.specs.Patterns as patterns
-use Rattle.well_typed.specs.Patterns.{Matched, within, tuple_types}
+use Rattle.well_typed.specs.Patterns.{Matched, within}
 use Rattle.well_typed.specs.Types as types
 use Rattle.soundness_values.specs.Frames.{one_runs}
 use Rattle.soundness_values.proofs.Standings.{alike_itself}
@@ -49,8 +46,8 @@ use Rattle.soundness_values.proofs.WholeValues.{fits_of}
 use Rattle.soundness_values.specs.Typed.{IsOf, has_variant}
 use Rattle.match_laws.proofs.Compared as comparing
 use Rattle.match_laws.proofs.PartsStand.{PartStands, part_stands, field_stands}
-use Rattle.match_laws.proofs.States.{same_itself, still_ready, still_stands, ready_left, ready_right, after_tests, after_alternatives, last_test, followed, answers_from}
-use Rattle.match_laws.proofs.TypesFound.{adt_by, tuple_by, array_by, int_by, bool_by, some_by, no_enum_active, lone_variant, part_typed, truth, both_left, both_right, same_ty, type_found, a_number, a_truth, AnAggregate, IsAggregateType, an_aggregate, adt_type, tuple_type, array_type, bool_is_made}
+use Rattle.match_laws.proofs.States.{same_itself, still_ready, still_stands, ready_left, ready_right, after_tests, after_alternatives, last_test, followed}
+use Rattle.match_laws.proofs.TypesFound.{adt_by, tuple_by, array_by, int_by, bool_by, some_by, no_enum_active, lone_variant, part_typed, truth, both_right, same_ty, type_found, a_number, a_truth, AnAggregate, IsAggregateType, an_aggregate, adt_type, tuple_type, array_type, bool_is_made}
 use Rattle.match_laws.specs.Matches.{Same, Answers, AreClear, IsReady, Stands, values, TestsAnswerAsPatternsTake, ArmsAreTakenAsPatternsTake}
 
 -- ---- choices by a truth value
@@ -276,50 +273,6 @@ module _ (setting : Setting) (local_of : ℕ → ℕ) (run : Bodies) (fuel : ℕ
         (s : Located) → Holds (patterns.pattern_row items m ty by form) →
         Ready w (cells items true (node id at ty by form)) → At w q ty s →
         Answers w (takes_by form (Some s.value)) (all_hold items p ((shape_of items form (head id ty by)).tests q) w)
-    form_answers (tree.Number value) id at ty by m q w s h r t = absurd (false≢true h)
-    form_answers (tree.Truth value) id at ty by m q w s h r t = absurd (false≢true h)
-    form_answers tree.UnitValue id at ty by m q w s h r t = absurd (false≢true h)
-    form_answers (tree.Variable key) id at ty by m q w s h r t = absurd (false≢true h)
-    form_answers (tree.Captured closure part name) id at ty by m q w s h r t = absurd (false≢true h)
-    form_answers (tree.Field base part) id at ty by m q w s h r t = absurd (false≢true h)
-    form_answers (tree.Index base index length_) id at ty by m q w s h r t = absurd (false≢true h)
-    form_answers (tree.Deref base) id at ty by m q w s h r t = absurd (false≢true h)
-    form_answers (tree.Not operand) id at ty by m q w s h r t = absurd (false≢true h)
-    form_answers (tree.Negate operand) id at ty by m q w s h r t = absurd (false≢true h)
-    form_answers (tree.Arithmetic operator left right) id at ty by m q w s h r t = absurd (false≢true h)
-    form_answers (tree.Comparison operator left right) id at ty by m q w s h r t = absurd (false≢true h)
-    form_answers (tree.And left right) id at ty by m q w s h r t = absurd (false≢true h)
-    form_answers (tree.Or left right) id at ty by m q w s h r t = absurd (false≢true h)
-    form_answers (tree.Assign place value) id at ty by m q w s h r t = absurd (false≢true h)
-    form_answers (tree.Call body args) id at ty by m q w s h r t = absurd (false≢true h)
-    form_answers (tree.MethodCall body receiver args) id at ty by m q w s h r t = absurd (false≢true h)
-    form_answers (tree.VirtualCall trait_no method receiver args) id at ty by m q w s h r t = absurd (false≢true h)
-    form_answers (tree.ClosureCall body callee args) id at ty by m q w s h r t = absurd (false≢true h)
-    form_answers (tree.Make adt variant fields) id at ty by m q w s h r t = absurd (false≢true h)
-    form_answers (tree.Tuple parts) id at ty by m q w s h r t = absurd (false≢true h)
-    form_answers (tree.Array elements) id at ty by m q w s h r t = absurd (false≢true h)
-    form_answers (tree.Closure closure captures) id at ty by m q w s h r t = absurd (false≢true h)
-    form_answers (tree.NewBox content) id at ty by m q w s h r t = absurd (false≢true h)
-    form_answers (tree.Print operand) id at ty by m q w s h r t = absurd (false≢true h)
-    form_answers tree.Ask id at ty by m q w s h r t = absurd (false≢true h)
-    form_answers (tree.DropValue operand) id at ty by m q w s h r t = absurd (false≢true h)
-    form_answers (tree.Forget operand) id at ty by m q w s h r t = absurd (false≢true h)
-    form_answers tree.Panic id at ty by m q w s h r t = absurd (false≢true h)
-    form_answers (tree.Borrow unique base) id at ty by m q w s h r t = absurd (false≢true h)
-    form_answers (tree.Unsize trait_no operand) id at ty by m q w s h r t = absurd (false≢true h)
-    form_answers (tree.Block statements tail) id at ty by m q w s h r t = absurd (false≢true h)
-    form_answers (tree.Let pattern initialiser) id at ty by m q w s h r t = absurd (false≢true h)
-    form_answers (tree.Evaluate expression) id at ty by m q w s h r t = absurd (false≢true h)
-    form_answers (tree.If condition consequent otherwise) id at ty by m q w s h r t = absurd (false≢true h)
-    form_answers (tree.IfLet pattern scrutinee consequent otherwise) id at ty by m q w s h r t = absurd (false≢true h)
-    form_answers (tree.Match scrutinee arms) id at ty by m q w s h r t = absurd (false≢true h)
-    form_answers (tree.Arm pattern guard body) id at ty by m q w s h r t = absurd (false≢true h)
-    form_answers (tree.Loop body) id at ty by m q w s h r t = absurd (false≢true h)
-    form_answers (tree.While condition body) id at ty by m q w s h r t = absurd (false≢true h)
-    form_answers (tree.WhileLet pattern scrutinee body) id at ty by m q w s h r t = absurd (false≢true h)
-    form_answers (tree.Break loop_ value) id at ty by m q w s h r t = absurd (false≢true h)
-    form_answers (tree.Continue loop_) id at ty by m q w s h r t = absurd (false≢true h)
-    form_answers (tree.Return value) id at ty by m q w s h r t = absurd (false≢true h)
     form_answers tree.Wildcard id at ty by m q w s h r t = same_itself w
     form_answers (tree.Binding name) id at ty by m q w s h r t = same_itself w
     form_answers (tree.NumberPattern value) id at ty by m q w s h r t =
@@ -369,6 +322,7 @@ module _ (setting : Setting) (local_of : ℕ → ℕ) (run : Bodies) (fuel : ℕ
     form_answers (tree.OrPattern alternatives) id at ty by m q w s h r t =
         last_test items p w (any_takes alternatives (Some s.value)) _
         (any_answer alternatives m ty q w s h.1.1 (ready_right setting local_of w _ (all_cells items alternatives) r) t)
+    form_answers other id at ty by m q w s h r t = absurd (false≢true h)
 
     parts_answer : (nodes : Nodes) (k : ℕ) (tys : List TyId) (m : Matched) (ty : TyId) (q : Place) (w : State)
         (s : Located) → ((v : State) → At v q ty s → (j : ℕ) (want : TyId) → slice_get tys j ≡ Some want →

@@ -1,5 +1,5 @@
 -- What is found where a type is wanted, and what values of a type are.
-use Rattle.std.proofs.Common.{◌≡◌, ℕ, ℤ, ◌==◌, ◌&&◌, ◌||◌, ◌≤◌, ◌<◌, get_or, nat_lt, Bool, true, false, List, [], ◌∷◌, length, IsTrue, Option, Some, None, not, refl, ap, sym, ◌∙◌, subst, arith}
+use Rattle.std.proofs.Common.{◌≡◌, ℕ, ℤ, ◌==◌, ◌&&◌, ◌||◌, ◌≤◌, ◌<◌, get_or, nat_lt, Bool, true, false, List, length, IsTrue, Option, Some, None, not, refl, ap, sym, ◌∙◌, subst, arith}
 use Rattle.std.specs.Prelude.{slice_get, option_and_then, position}
 use Rattle.std.specs.Option.{option_map_or}
 use Rattle.std.proofs.lemmas.Bool.{false≢true, ltb-true, ltb-false}
@@ -13,7 +13,6 @@ use Rattle.mir_ty.specs.ItemTable.{ItemTable, type_at}
 use Rattle.mir_ty.specs.Parts.{variants_of, parts_of}
 use Rattle.mir_ty.specs.declared.adt.Adt.{Adt}
 use Rattle.store_model.specs.declared.address.At.TheVariants.{Part}
-use Rattle.store_model.specs.Concrete.Drops.{drop_impl}
 use Rattle.store_model.specs.Concrete.Location.{DynamicType, OfType, OfObject, adt_of_impl, adt_ty, concrete_ty, is_of_type, type_of_part, type_of_field}
 use Rattle.store_model.specs.Places.Place.{is_enum, is_reference}
 use Rattle.store_model.specs.Places.TypeForms.{is_bool, is_dyn, is_adt, is_never, is_unit, int_kind, box_content}
@@ -42,18 +41,8 @@ same_ty a b h = ap (λ (n : ℕ). record { 0 = n }) ((Decides-eqb a.0 b.0).0 h)
 
 the_adt : (n : ℕ) (o : Option Ty) → is_adt n o ≡ true → o ≡ Some (Ty.Adt n)
 the_adt n (Some (Ty.Adt m)) h = ap (λ k. Some (Ty.Adt k)) (sym ((Decides-eqb n m).0 h))
-the_adt n (Some (Ty.Tuple parts)) h = absurd (false≢true h)
-the_adt n (Some (Ty.Array element count)) h = absurd (false≢true h)
-the_adt n (Some (Ty.Closure m)) h = absurd (false≢true h)
-the_adt n (Some (Ty.Int kind)) h = absurd (false≢true h)
-the_adt n (Some Ty.Bool) h = absurd (false≢true h)
-the_adt n (Some Ty.Unit) h = absurd (false≢true h)
-the_adt n (Some Ty.Never) h = absurd (false≢true h)
-the_adt n (Some (Ty.Boxed t)) h = absurd (false≢true h)
-the_adt n (Some (Ty.Dyn t)) h = absurd (false≢true h)
-the_adt n (Some (Ty.Shared t)) h = absurd (false≢true h)
-the_adt n (Some (Ty.Unique t)) h = absurd (false≢true h)
 the_adt n None h = absurd (false≢true h)
+the_adt n (Some other) h = absurd (false≢true h)
 
 either_true : (a b : Bool) → (a || b) ≡ true → (a ≡ false → b ≡ true)
 either_true false b h e = h
@@ -149,17 +138,7 @@ array_type element count = record { number = refl; bool = refl; unit = refl; box
 
 no_never : (ty : Ty) → is_bool (Some ty) ≡ true → is_never (Some ty) ≡ false
 no_never Ty.Never h = absurd (false≢true h)
-no_never Ty.Bool h = refl
-no_never Ty.Unit h = refl
-no_never (Ty.Int kind) h = refl
-no_never (Ty.Adt n) h = refl
-no_never (Ty.Tuple parts) h = refl
-no_never (Ty.Array element count) h = refl
-no_never (Ty.Closure n) h = refl
-no_never (Ty.Boxed t) h = refl
-no_never (Ty.Dyn n) h = refl
-no_never (Ty.Shared t) h = refl
-no_never (Ty.Unique t) h = refl
+no_never other h = refl
 
 found_one : (list : List Ty) (n : ℕ) → position (λ ty. is_bool (Some ty)) list ≡ Some n →
     is_never (slice_get list n) ≡ false
@@ -182,81 +161,31 @@ bool_is_made items = by (position (λ ty. is_bool (Some ty)) items.types) refl
 pub adt_by : (o : Option Ty) (f : ℕ → Claim) → Holds (some (option_and_then types.adt_in o) f) →
     (n : ℕ) × (o ≡ Some (Ty.Adt n)) × Holds (f n)
 adt_by None f h = absurd (false≢true h)
-adt_by (Some Ty.Bool) f h = absurd (false≢true h)
-adt_by (Some Ty.Unit) f h = absurd (false≢true h)
-adt_by (Some Ty.Never) f h = absurd (false≢true h)
-adt_by (Some (Ty.Int kind)) f h = absurd (false≢true h)
 adt_by (Some (Ty.Adt n)) f h = (n, refl, h)
-adt_by (Some (Ty.Tuple tys)) f h = absurd (false≢true h)
-adt_by (Some (Ty.Array element count)) f h = absurd (false≢true h)
-adt_by (Some (Ty.Closure n)) f h = absurd (false≢true h)
-adt_by (Some (Ty.Boxed t)) f h = absurd (false≢true h)
-adt_by (Some (Ty.Dyn n)) f h = absurd (false≢true h)
-adt_by (Some (Ty.Shared t)) f h = absurd (false≢true h)
-adt_by (Some (Ty.Unique t)) f h = absurd (false≢true h)
+adt_by (Some other) f h = absurd (false≢true h)
 
 pub tuple_by : (o : Option Ty) (f : List TyId → Claim) → Holds (some (option_and_then types.tuple_in o) f) →
     (tys : List TyId) × (o ≡ Some (Ty.Tuple tys)) × Holds (f tys)
 tuple_by None f h = absurd (false≢true h)
-tuple_by (Some Ty.Bool) f h = absurd (false≢true h)
-tuple_by (Some Ty.Unit) f h = absurd (false≢true h)
-tuple_by (Some Ty.Never) f h = absurd (false≢true h)
-tuple_by (Some (Ty.Int kind)) f h = absurd (false≢true h)
-tuple_by (Some (Ty.Adt n)) f h = absurd (false≢true h)
 tuple_by (Some (Ty.Tuple tys)) f h = (tys, refl, h)
-tuple_by (Some (Ty.Array element count)) f h = absurd (false≢true h)
-tuple_by (Some (Ty.Closure n)) f h = absurd (false≢true h)
-tuple_by (Some (Ty.Boxed t)) f h = absurd (false≢true h)
-tuple_by (Some (Ty.Dyn n)) f h = absurd (false≢true h)
-tuple_by (Some (Ty.Shared t)) f h = absurd (false≢true h)
-tuple_by (Some (Ty.Unique t)) f h = absurd (false≢true h)
+tuple_by (Some other) f h = absurd (false≢true h)
 
 pub array_by : (o : Option Ty) (f : TyId × ℕ → Claim) → Holds (some (option_and_then types.array_in o) f) →
     (element : TyId) × (count : ℕ) × (o ≡ Some (Ty.Array element count)) × Holds (f (element, count))
 array_by None f h = absurd (false≢true h)
-array_by (Some Ty.Bool) f h = absurd (false≢true h)
-array_by (Some Ty.Unit) f h = absurd (false≢true h)
-array_by (Some Ty.Never) f h = absurd (false≢true h)
-array_by (Some (Ty.Int kind)) f h = absurd (false≢true h)
-array_by (Some (Ty.Adt n)) f h = absurd (false≢true h)
-array_by (Some (Ty.Tuple tys)) f h = absurd (false≢true h)
 array_by (Some (Ty.Array element count)) f h = (element, count, refl, h)
-array_by (Some (Ty.Closure n)) f h = absurd (false≢true h)
-array_by (Some (Ty.Boxed t)) f h = absurd (false≢true h)
-array_by (Some (Ty.Dyn n)) f h = absurd (false≢true h)
-array_by (Some (Ty.Shared t)) f h = absurd (false≢true h)
-array_by (Some (Ty.Unique t)) f h = absurd (false≢true h)
+array_by (Some other) f h = absurd (false≢true h)
 
 pub int_by : (o : Option Ty) (value : ℤ) → IsTrue (option_map_or (types.is_within value) (option_and_then types.kind_in o) false) →
     (kind : IntKind) × (o ≡ Some (Ty.Int kind))
 int_by None value h = absurd (false≢true h)
-int_by (Some Ty.Bool) value h = absurd (false≢true h)
-int_by (Some Ty.Unit) value h = absurd (false≢true h)
-int_by (Some Ty.Never) value h = absurd (false≢true h)
 int_by (Some (Ty.Int kind)) value h = (kind, refl)
-int_by (Some (Ty.Adt n)) value h = absurd (false≢true h)
-int_by (Some (Ty.Tuple tys)) value h = absurd (false≢true h)
-int_by (Some (Ty.Array element count)) value h = absurd (false≢true h)
-int_by (Some (Ty.Closure n)) value h = absurd (false≢true h)
-int_by (Some (Ty.Boxed t)) value h = absurd (false≢true h)
-int_by (Some (Ty.Dyn n)) value h = absurd (false≢true h)
-int_by (Some (Ty.Shared t)) value h = absurd (false≢true h)
-int_by (Some (Ty.Unique t)) value h = absurd (false≢true h)
+int_by (Some other) value h = absurd (false≢true h)
 
 pub bool_by : (o : Option Ty) → IsTrue (option_map_or types.is_bool_ty o false) → o ≡ Some Ty.Bool
 bool_by None h = absurd (false≢true h)
 bool_by (Some Ty.Bool) h = refl
-bool_by (Some Ty.Unit) h = absurd (false≢true h)
-bool_by (Some Ty.Never) h = absurd (false≢true h)
-bool_by (Some (Ty.Int kind)) h = absurd (false≢true h)
-bool_by (Some (Ty.Adt n)) h = absurd (false≢true h)
-bool_by (Some (Ty.Tuple tys)) h = absurd (false≢true h)
-bool_by (Some (Ty.Array element count)) h = absurd (false≢true h)
-bool_by (Some (Ty.Closure n)) h = absurd (false≢true h)
-bool_by (Some (Ty.Boxed t)) h = absurd (false≢true h)
-bool_by (Some (Ty.Dyn n)) h = absurd (false≢true h)
-bool_by (Some (Ty.Shared t)) h = absurd (false≢true h)
-bool_by (Some (Ty.Unique t)) h = absurd (false≢true h)
+bool_by (Some other) h = absurd (false≢true h)
 
 pub some_by : {A : Type 0} (o : Option A) (f : A → Claim) → Holds (some o f) → (a : A) × (o ≡ Some a) × Holds (f a)
 some_by None f h = absurd (false≢true h)

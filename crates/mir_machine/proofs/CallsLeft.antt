@@ -192,9 +192,4 @@ pub virtual_same : (world : World) (trait_no method : ℕ) (before : Trace) (val
     virtual_body (run_setting world) trait_no method (state_of before world) values ≡ virtual_body (setting_of true world.graph.now) trait_no method (with_activations (state_of [] world).activations) values
 virtual_same world trait_no method before [] = refl
 virtual_same world trait_no method before (a_datum.Address address ∷ rest) = refl
-virtual_same world trait_no method before (a_datum.Gone ∷ rest) = refl
-virtual_same world trait_no method before (a_datum.Number number ∷ rest) = refl
-virtual_same world trait_no method before (a_datum.Truth truth ∷ rest) = refl
-virtual_same world trait_no method before (a_datum.UnitValue ∷ rest) = refl
-virtual_same world trait_no method before (a_datum.Aggregate variant serial parts ∷ rest) = refl
-virtual_same world trait_no method before (a_datum.Box serial impl_no inside ∷ rest) = refl
+virtual_same world trait_no method before other = refl

@@ -124,12 +124,7 @@ module _ (setting : Setting) (run : Bodies) (bodies : BodiesAdd run) where
 
   freed_there_adds : (value : Datum) (s : Located) → Adds (freed_there setting run value s)
   freed_there_adds (Box serial impl_no inside) s before w t = begun_further (After before) w.trace (Event.Freed serial ∷ []) t
-  freed_there_adds Gone s before w t = t
-  freed_there_adds (Number number) s before w t = t
-  freed_there_adds (Truth truth) s before w t = t
-  freed_there_adds UnitValue s before w t = t
-  freed_there_adds (Aggregate variant serial parts) s before w t = t
-  freed_there_adds (Address address) s before w t = t
+  freed_there_adds other s before w t = t
 
   freed_adds : (s : Located) → Adds (freed_at setting run s)
   freed_adds s before w t = still_told s.dynamic _ (λ s w. freed_there setting run s.value s w) before w t (λ s. freed_there_adds s.value s before w t)

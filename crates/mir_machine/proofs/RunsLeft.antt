@@ -20,15 +20,8 @@ pub call_on : CallIsOneEquation
 call_on strict graph ticks place to callee args w after values e = rw e refl
 
 placed : (number block : ℕ) (halt : Halt) → IsPlaced halt → stuck_in number block halt ≡ halt
-placed number block Aborted h = refl
-placed number block OutOfTicks h = refl
 placed number block Stuck h = absurd h
-placed number block (StuckAt other at) h = refl
-placed number block (BadUse site) h = refl
-placed number block (BadStore site) h = refl
-placed number block NoChoice h = refl
-placed number block Infeasible h = refl
-placed number block Unreachable h = refl
+placed number block others h = refl
 
 lost_halts : (lost : Bool) (halt : Halt) (w : State) → halting_if lost Stuck (Halts halt w) ≡ Halts halt w
 lost_halts true halt w = refl

@@ -61,29 +61,12 @@ line_of at = record { block = at.block; line = at.line }
 
 behind_same : (term : Term) (own : LineOfUse) → line_of (behind_drop term own) ≡ told.behind_drop term (line_of own)
 behind_same (Term.DropAt place next unwind) own = refl
-behind_same (Term.Goto block) own = refl
-behind_same (Term.If on if_true if_false) own = refl
-behind_same (Term.Case on variant if_true if_false) own = refl
-behind_same (Term.Math to op left right next unwind) own = refl
-behind_same (Term.Negate to of next unwind) own = refl
-behind_same (Term.Bounds index count next unwind) own = refl
-behind_same (Term.Call to body args next unwind) own = refl
-behind_same (Term.Virtual to trait_no method args next unwind) own = refl
-behind_same (Term.Ask to next unwind) own = refl
-behind_same (Term.Panic why unwind) own = refl
-behind_same Term.Return own = refl
-behind_same Term.Resume own = refl
+behind_same other own = refl
 
 told_same : (by : Use) (block : Option Block) (own : LineOfUse) → line_of (told_by (is_drop by) block own) ≡ told.told_by (use_of by) block (line_of own)
-told_same Use.Copies block own = refl
-told_same Use.Moves block own = refl
-told_same Use.Borrows block own = refl
-told_same Use.Touches block own = refl
-told_same Use.Tests block own = refl
-told_same Use.Stores block own = refl
 told_same Use.Drops None own = refl
 told_same Use.Drops (Some block) own = behind_same block.term own
-told_same Use.Frees block own = refl
+told_same other block own = refl
 
 module _ (program : ProgramTree) (named : AllNameTheirLoops program) where
   abbrev graph : Graph

@@ -130,19 +130,7 @@ module _ (items heads : ItemTable) (x : Extends items heads) where
   no_block : (n : ℕ) (l : Line) (r : List ℕ) → EndsBody l → code_read heads n (line (line_text l) ++ r) ≡ None
   no_block n (BodyLine m name params) r e = refl
   no_block n EndLine r e = refl
-  no_block n HeadLine r e = absurd e
-  no_block n (StructLine name fields copy drop_body) r e = absurd e
-  no_block n (EnumLine name variants copy drop_body) r e = absurd e
-  no_block n (TraitLine name methods) r e = absurd e
-  no_block n (ImplLine trait adt bodies) r e = absurd e
-  no_block n (ClosureLine m captures body) r e = absurd e
-  no_block n (LocalLine m ty) r e = absurd e
-  no_block n (BlockLine m kind rank) r e = absurd e
-  no_block n (MakeLine to name variant parts) r e = absurd e
-  no_block n (UnsizeLine to name from) r e = absurd e
-  no_block n (StmtLine stmt) r e = absurd e
-  no_block n (VirtualLine to name method args next unwind) r e = absurd e
-  no_block n (TermLine term) r e = absurd e
+  no_block n other r e = absurd e
 
   -- locals
   abbrev LocalsPass : ℕ → List TyId → Type 0
@@ -177,19 +165,7 @@ module _ (items heads : ItemTable) (x : Extends items heads) where
   no_local_at : (l : Line) (s : List Written) (r : List ℕ) → EndsBody l → one_local heads s (line (line_text l) ++ r) ≡ None
   no_local_at (BodyLine m name params) s r e = refl
   no_local_at EndLine s r e = refl
-  no_local_at HeadLine s r e = absurd e
-  no_local_at (StructLine name fields copy drop_body) s r e = absurd e
-  no_local_at (EnumLine name variants copy drop_body) s r e = absurd e
-  no_local_at (TraitLine name methods) s r e = absurd e
-  no_local_at (ImplLine trait adt bodies) s r e = absurd e
-  no_local_at (ClosureLine m captures body) s r e = absurd e
-  no_local_at (LocalLine m ty) s r e = absurd e
-  no_local_at (BlockLine m kind rank) s r e = absurd e
-  no_local_at (MakeLine to name variant parts) s r e = absurd e
-  no_local_at (UnsizeLine to name from) s r e = absurd e
-  no_local_at (StmtLine stmt) s r e = absurd e
-  no_local_at (VirtualLine to name method args next unwind) s r e = absurd e
-  no_local_at (TermLine term) s r e = absurd e
+  no_local_at other s r e = absurd e
 
   locals_end : (blocks : List Block) (after : List Line) → Begin EndsBody after
       → Begin (λ l. (s : List Written) (r : List ℕ) → one_local heads s (line (line_text l) ++ r) ≡ None) (lines_each (lines_of_block items) 0 blocks ++ after)
@@ -307,37 +283,11 @@ module _ (items heads : ItemTable) (x : Extends items heads) where
 
   no_body : (n : ℕ) (l : Line) (r : List ℕ) → EndsAll l → body_read heads n (line (line_text l) ++ r) ≡ None
   no_body n EndLine r e = refl
-  no_body n HeadLine r e = absurd e
-  no_body n (StructLine name fields copy drop_body) r e = absurd e
-  no_body n (EnumLine name variants copy drop_body) r e = absurd e
-  no_body n (TraitLine name methods) r e = absurd e
-  no_body n (ImplLine trait adt bodies) r e = absurd e
-  no_body n (ClosureLine m captures body) r e = absurd e
-  no_body n (BodyLine m name params) r e = absurd e
-  no_body n (LocalLine m ty) r e = absurd e
-  no_body n (BlockLine m kind rank) r e = absurd e
-  no_body n (MakeLine to name variant parts) r e = absurd e
-  no_body n (UnsizeLine to name from) r e = absurd e
-  no_body n (StmtLine stmt) r e = absurd e
-  no_body n (VirtualLine to name method args next unwind) r e = absurd e
-  no_body n (TermLine term) r e = absurd e
+  no_body n other r e = absurd e
 
   ends_up : (l : Line) → EndsAll l → EndsBody l
   ends_up EndLine e = tt
-  ends_up HeadLine e = absurd e
-  ends_up (StructLine name fields copy drop_body) e = absurd e
-  ends_up (EnumLine name variants copy drop_body) e = absurd e
-  ends_up (TraitLine name methods) e = absurd e
-  ends_up (ImplLine trait adt bodies) e = absurd e
-  ends_up (ClosureLine m captures body) e = absurd e
-  ends_up (BodyLine m name params) e = absurd e
-  ends_up (LocalLine m ty) e = absurd e
-  ends_up (BlockLine m kind rank) e = absurd e
-  ends_up (MakeLine to name variant parts) e = absurd e
-  ends_up (UnsizeLine to name from) e = absurd e
-  ends_up (StmtLine stmt) e = absurd e
-  ends_up (VirtualLine to name method args next unwind) e = absurd e
-  ends_up (TermLine term) e = absurd e
+  ends_up other e = absurd e
 
   told_some : (told : BodyTold) → 0 < told_full told
   told_some told = omega arith

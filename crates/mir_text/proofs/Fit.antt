@@ -25,33 +25,11 @@ module _ (items : ItemTable) where
   stmt_fits : (stmt : Stmt) → LineStands items (line_of_stmt items stmt) → StmtFits stmt
   stmt_fits (Stmt.Make to adt variant parts) s = (s.0, s.2, s.3)
   stmt_fits (Stmt.Unsize to trait from) s = (s.0, s.2)
-  stmt_fits (Stmt.Put to from) s = s.0
-  stmt_fits (Stmt.Compare to op left right) s = s.0
-  stmt_fits (Stmt.Not to operand) s = s.0
-  stmt_fits (Stmt.Tuple to parts) s = s.0
-  stmt_fits (Stmt.Array to parts) s = s.0
-  stmt_fits (Stmt.Close to closure parts) s = s.0
-  stmt_fits (Stmt.NewBox to operand) s = s.0
-  stmt_fits (Stmt.Borrow to unique of) s = s.0
-  stmt_fits (Stmt.Touch place) s = s.0
-  stmt_fits (Stmt.Print operand) s = s.0
-  stmt_fits (Stmt.Forget operand) s = s.0
-  stmt_fits (Stmt.Free place) s = s.0
+  stmt_fits other s = s.0
 
   term_fits : (term : Term) → LineStands items (line_of_term items term) → TermFits term
   term_fits (Term.Virtual to trait method args next unwind) s = (s.0, s.2, s.3, s.4)
-  term_fits (Term.Goto block) s = s.0
-  term_fits (Term.If on if_true if_false) s = s.0
-  term_fits (Term.Case on variant if_true if_false) s = s.0
-  term_fits (Term.Math to op left right next unwind) s = s.0
-  term_fits (Term.Negate to of next unwind) s = s.0
-  term_fits (Term.Bounds index count next unwind) s = s.0
-  term_fits (Term.Call to body args next unwind) s = s.0
-  term_fits (Term.Ask to next unwind) s = s.0
-  term_fits (Term.DropAt place next unwind) s = s.0
-  term_fits (Term.Panic why unwind) s = s.0
-  term_fits Term.Return s = s.0
-  term_fits Term.Resume s = s.0
+  term_fits other s = s.0
 
   stmts_fit : (stmts : List Stmt) → Every (LineStands items) (map (line_of_stmt items) stmts) → Every StmtFits stmts
   stmts_fit [] h = tt

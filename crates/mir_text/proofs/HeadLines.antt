@@ -55,19 +55,7 @@ adt_head_of items (StructLine name fields copy drop_body) r is s =
     adt_line_named (codes "struct ") name (trees_in_row fields) copy drop_body r refl (is_a_name name s.0) s.1 (row_free (map tree_text fields) (each_free items fields s.2))
 adt_head_of items (EnumLine name variants copy drop_body) r is s =
     adt_line_named (codes "enum ") name (in_braces (map variant_words variants)) copy drop_body r refl (is_a_name name s.0) s.1 (braces_free (map variant_words variants) (variants_free items variants s.2))
-adt_head_of items HeadLine r is s = absurd is
-adt_head_of items (TraitLine name methods) r is s = absurd is
-adt_head_of items (ImplLine trait adt bodies) r is s = absurd is
-adt_head_of items (ClosureLine n captures body) r is s = absurd is
-adt_head_of items (BodyLine n name params) r is s = absurd is
-adt_head_of items (LocalLine n ty) r is s = absurd is
-adt_head_of items (BlockLine n kind rank) r is s = absurd is
-adt_head_of items (MakeLine to name variant parts) r is s = absurd is
-adt_head_of items (UnsizeLine to name from) r is s = absurd is
-adt_head_of items (StmtLine stmt) r is s = absurd is
-adt_head_of items (VirtualLine to name method args next unwind) r is s = absurd is
-adt_head_of items (TermLine term) r is s = absurd is
-adt_head_of items EndLine r is s = absurd is
+adt_head_of items other r is s = absurd is
 
 pub trait_head_of : (items : ItemTable) (name : List ℕ) (methods : List (List ℕ × List Tree × Tree)) (r : List ℕ) → LineStands items (TraitLine name methods) → trait_head (line (line_text (TraitLine name methods)) ++ r) ≡ Some (name, r)
 trait_head_of items name methods r s =

@@ -207,89 +207,38 @@ module _ (items heads : ItemTable) (x : Extends items heads) where
 
 -- a line of a later section is none of this one
 pub no_adt_at : (heads : ItemTable) (l : Line) → BehindAdts l → (s : ItemsSeen) (r : List ℕ) → one_adt heads s (line (line_text l) ++ r) ≡ None
-no_adt_at heads HeadLine h s r = absurd h
-no_adt_at heads (StructLine name fields copy drop_body) h s r = absurd h
-no_adt_at heads (EnumLine name variants copy drop_body) h s r = absurd h
 no_adt_at heads (TraitLine name methods) h s r = refl
 no_adt_at heads (ImplLine trait adt bodies) h s r = refl
 no_adt_at heads (ClosureLine n captures body) h s r = refl
 no_adt_at heads (BodyLine n name params) h s r = refl
-no_adt_at heads (LocalLine n ty) h s r = absurd h
-no_adt_at heads (BlockLine n kind rank) h s r = absurd h
-no_adt_at heads (MakeLine to name variant parts) h s r = absurd h
-no_adt_at heads (UnsizeLine to name from) h s r = absurd h
-no_adt_at heads (StmtLine stmt) h s r = absurd h
-no_adt_at heads (VirtualLine to name method args next unwind) h s r = absurd h
-no_adt_at heads (TermLine term) h s r = absurd h
 no_adt_at heads EndLine h s r = refl
+no_adt_at heads other h s r = absurd h
 
 pub no_trait_at : (heads : ItemTable) (l : Line) → BehindTraits l → (s : ItemsSeen) (r : List ℕ) → one_trait heads s (line (line_text l) ++ r) ≡ None
-no_trait_at heads HeadLine h s r = absurd h
-no_trait_at heads (StructLine name fields copy drop_body) h s r = absurd h
-no_trait_at heads (EnumLine name variants copy drop_body) h s r = absurd h
-no_trait_at heads (TraitLine name methods) h s r = absurd h
 no_trait_at heads (ImplLine trait adt bodies) h s r = refl
 no_trait_at heads (ClosureLine n captures body) h s r = refl
 no_trait_at heads (BodyLine n name params) h s r = refl
-no_trait_at heads (LocalLine n ty) h s r = absurd h
-no_trait_at heads (BlockLine n kind rank) h s r = absurd h
-no_trait_at heads (MakeLine to name variant parts) h s r = absurd h
-no_trait_at heads (UnsizeLine to name from) h s r = absurd h
-no_trait_at heads (StmtLine stmt) h s r = absurd h
-no_trait_at heads (VirtualLine to name method args next unwind) h s r = absurd h
-no_trait_at heads (TermLine term) h s r = absurd h
 no_trait_at heads EndLine h s r = refl
+no_trait_at heads other h s r = absurd h
 
 pub no_impl_at : (heads : ItemTable) (l : Line) → BehindImpls l → (s : ItemsSeen) (r : List ℕ) → one_impl heads s (line (line_text l) ++ r) ≡ None
-no_impl_at heads HeadLine h s r = absurd h
-no_impl_at heads (StructLine name fields copy drop_body) h s r = absurd h
-no_impl_at heads (EnumLine name variants copy drop_body) h s r = absurd h
-no_impl_at heads (TraitLine name methods) h s r = absurd h
-no_impl_at heads (ImplLine trait adt bodies) h s r = absurd h
 no_impl_at heads (ClosureLine n captures body) h s r = refl
 no_impl_at heads (BodyLine n name params) h s r = refl
-no_impl_at heads (LocalLine n ty) h s r = absurd h
-no_impl_at heads (BlockLine n kind rank) h s r = absurd h
-no_impl_at heads (MakeLine to name variant parts) h s r = absurd h
-no_impl_at heads (UnsizeLine to name from) h s r = absurd h
-no_impl_at heads (StmtLine stmt) h s r = absurd h
-no_impl_at heads (VirtualLine to name method args next unwind) h s r = absurd h
-no_impl_at heads (TermLine term) h s r = absurd h
 no_impl_at heads EndLine h s r = refl
+no_impl_at heads other h s r = absurd h
 
 pub no_closure_at : (heads : ItemTable) (l : Line) → BehindClosures l → (s : ItemsSeen) (r : List ℕ) → one_closure heads s (line (line_text l) ++ r) ≡ None
-no_closure_at heads HeadLine h s r = absurd h
-no_closure_at heads (StructLine name fields copy drop_body) h s r = absurd h
-no_closure_at heads (EnumLine name variants copy drop_body) h s r = absurd h
-no_closure_at heads (TraitLine name methods) h s r = absurd h
-no_closure_at heads (ImplLine trait adt bodies) h s r = absurd h
-no_closure_at heads (ClosureLine n captures body) h s r = absurd h
 no_closure_at heads (BodyLine n name params) h s r = refl
-no_closure_at heads (LocalLine n ty) h s r = absurd h
-no_closure_at heads (BlockLine n kind rank) h s r = absurd h
-no_closure_at heads (MakeLine to name variant parts) h s r = absurd h
-no_closure_at heads (UnsizeLine to name from) h s r = absurd h
-no_closure_at heads (StmtLine stmt) h s r = absurd h
-no_closure_at heads (VirtualLine to name method args next unwind) h s r = absurd h
-no_closure_at heads (TermLine term) h s r = absurd h
 no_closure_at heads EndLine h s r = refl
+no_closure_at heads other h s r = absurd h
 
 pub no_adt_head_at : (l : Line) → BehindAdts l → (r : List ℕ) → adt_head (line (line_text l) ++ r) ≡ None
-no_adt_head_at HeadLine h r = absurd h
-no_adt_head_at (StructLine name fields copy drop_body) h r = absurd h
-no_adt_head_at (EnumLine name variants copy drop_body) h r = absurd h
 no_adt_head_at (TraitLine name methods) h r = refl
 no_adt_head_at (ImplLine trait adt bodies) h r = refl
 no_adt_head_at (ClosureLine n captures body) h r = refl
 no_adt_head_at (BodyLine n name params) h r = refl
-no_adt_head_at (LocalLine n ty) h r = absurd h
-no_adt_head_at (BlockLine n kind rank) h r = absurd h
-no_adt_head_at (MakeLine to name variant parts) h r = absurd h
-no_adt_head_at (UnsizeLine to name from) h r = absurd h
-no_adt_head_at (StmtLine stmt) h r = absurd h
-no_adt_head_at (VirtualLine to name method args next unwind) h r = absurd h
-no_adt_head_at (TermLine term) h r = absurd h
 no_adt_head_at EndLine h r = refl
+no_adt_head_at other h r = absurd h
 
 -- what stands behind each section
 pub behind_closures : (items : ItemTable) (n : ℕ) (bodies : List Body) → Begin BehindClosures (lines_each (lines_of_body items) n bodies ++ EndLine ∷ [])
@@ -301,60 +250,27 @@ behind_impls items n (def ∷ closures) rest h = tt
 behind_impls items n [] rest h = begin_up BehindClosures BehindImpls later rest h
   where
     later : (l : Line) → BehindClosures l → BehindImpls l
-    later HeadLine h = absurd h
-    later (StructLine name fields copy drop_body) h = absurd h
-    later (EnumLine name variants copy drop_body) h = absurd h
-    later (TraitLine name methods) h = absurd h
-    later (ImplLine trait adt bodies) h = absurd h
-    later (ClosureLine n captures body) h = absurd h
     later (BodyLine n name params) h = tt
-    later (LocalLine n ty) h = absurd h
-    later (BlockLine n kind rank) h = absurd h
-    later (MakeLine to name variant parts) h = absurd h
-    later (UnsizeLine to name from) h = absurd h
-    later (StmtLine stmt) h = absurd h
-    later (VirtualLine to name method args next unwind) h = absurd h
-    later (TermLine term) h = absurd h
     later EndLine h = tt
+    later other h = absurd h
 
 pub behind_traits : (items : ItemTable) (impls : List ImplDef) (rest : List Line) → Begin BehindImpls rest → Begin BehindTraits (map (line_of_impl items) impls ++ rest)
 behind_traits items (def ∷ impls) rest h = tt
 behind_traits items [] rest h = begin_up BehindImpls BehindTraits later rest h
   where
     later : (l : Line) → BehindImpls l → BehindTraits l
-    later HeadLine h = absurd h
-    later (StructLine name fields copy drop_body) h = absurd h
-    later (EnumLine name variants copy drop_body) h = absurd h
-    later (TraitLine name methods) h = absurd h
-    later (ImplLine trait adt bodies) h = absurd h
     later (ClosureLine n captures body) h = tt
     later (BodyLine n name params) h = tt
-    later (LocalLine n ty) h = absurd h
-    later (BlockLine n kind rank) h = absurd h
-    later (MakeLine to name variant parts) h = absurd h
-    later (UnsizeLine to name from) h = absurd h
-    later (StmtLine stmt) h = absurd h
-    later (VirtualLine to name method args next unwind) h = absurd h
-    later (TermLine term) h = absurd h
     later EndLine h = tt
+    later other h = absurd h
 
 pub behind_adts : (items : ItemTable) (traits : List TraitDef) (rest : List Line) → Begin BehindTraits rest → Begin BehindAdts (map (line_of_trait items) traits ++ rest)
 behind_adts items (def ∷ traits) rest h = tt
 behind_adts items [] rest h = begin_up BehindTraits BehindAdts later rest h
   where
     later : (l : Line) → BehindTraits l → BehindAdts l
-    later HeadLine h = absurd h
-    later (StructLine name fields copy drop_body) h = absurd h
-    later (EnumLine name variants copy drop_body) h = absurd h
-    later (TraitLine name methods) h = absurd h
     later (ImplLine trait adt bodies) h = tt
     later (ClosureLine n captures body) h = tt
     later (BodyLine n name params) h = tt
-    later (LocalLine n ty) h = absurd h
-    later (BlockLine n kind rank) h = absurd h
-    later (MakeLine to name variant parts) h = absurd h
-    later (UnsizeLine to name from) h = absurd h
-    later (StmtLine stmt) h = absurd h
-    later (VirtualLine to name method args next unwind) h = absurd h
-    later (TermLine term) h = absurd h
     later EndLine h = tt
+    later other h = absurd h

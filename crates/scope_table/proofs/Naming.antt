@@ -45,59 +45,12 @@ module _ (items : ItemTable) (t : NodeId) (name : MadeAround) (scope : NodeId) (
         ∙ in_form form (head id ty by) place H
 
     in_form : (form : Form) (h : NodeHead) (place : Place) (H : Held) → entered (part_rows t name form) (enter_if_any (by_name name form).entry (named h.id) H) ≡ named_in scope.0 ((shape_of items form h).bindings place) H
-    in_form (Number value) h place H = refl
-    in_form (Truth value) h place H = refl
-    in_form UnitValue h place H = refl
-    in_form (Variable key) h place H = refl
-    in_form (Captured closure part name) h place H = refl
-    in_form (Field base part) h place H = refl
-    in_form (Index base index length) h place H = refl
-    in_form (Deref base) h place H = refl
-    in_form (Not operand) h place H = refl
-    in_form (Negate operand) h place H = refl
-    in_form (Arithmetic operator left right) h place H = refl
-    in_form (Comparison operator left right) h place H = refl
-    in_form (And left right) h place H = refl
-    in_form (Or left right) h place H = refl
-    in_form (Assign target value) h place H = refl
-    in_form (Call body args) h place H = refl
-    in_form (MethodCall body receiver args) h place H = refl
-    in_form (VirtualCall trait_no method receiver args) h place H = refl
-    in_form (ClosureCall body callee args) h place H = refl
-    in_form (Make adt variant fields) h place H = refl
-    in_form (Tuple parts) h place H = refl
-    in_form (Array elements) h place H = refl
-    in_form (Closure closure captures) h place H = refl
-    in_form (NewBox content) h place H = refl
-    in_form (Print operand) h place H = refl
-    in_form Ask h place H = refl
-    in_form (DropValue operand) h place H = refl
-    in_form (Forget operand) h place H = refl
-    in_form Panic h place H = refl
-    in_form (Borrow unique base) h place H = refl
-    in_form (Unsize trait_no operand) h place H = refl
-    in_form (Block statements tail) h place H = refl
-    in_form (Let pattern initialiser) h place H = refl
-    in_form (Evaluate expression) h place H = refl
-    in_form (If condition consequent otherwise) h place H = refl
-    in_form (IfLet pattern scrutinee consequent otherwise) h place H = refl
-    in_form (Match scrutinee arms) h place H = refl
-    in_form (Arm pattern guard body) h place H = refl
-    in_form (Loop body) h place H = refl
-    in_form (While condition body) h place H = refl
-    in_form (WhileLet pattern scrutinee body) h place H = refl
-    in_form (Break loop value) h place H = refl
-    in_form (Continue loop) h place H = refl
-    in_form (Return value) h place H = refl
-    in_form Wildcard h place H = refl
     in_form (Binding name) h place H = ap (λ (o : Option NodeId). enter_if_any o (named h.id) H) is
-    in_form (NumberPattern value) h place H = refl
-    in_form (TruthPattern value) h place H = refl
     in_form (StructPattern fields) h place H = field_names fields ToPart place H
     in_form (VariantPattern variant is_test fields) h place H = field_names fields (ToField variant) place H
     in_form (TuplePattern parts) h place H = part_names parts 0 place H
     in_form (ArrayPattern elements) h place H = part_names elements 0 place H
-    in_form (OrPattern alternatives) h place H = refl
+    in_form other h place H = refl
 
     field_names : (fields : Fields) (step : ℕ → Step) (place : Place) → Names (pattern_rows_of_fields t name fields) ((in_fields items fields step).bindings place)
     field_names no_field step place H = refl

@@ -39,21 +39,6 @@ module _ {W : Type 0} (items : ItemTable) (p : Effects W) (fuel : ℕ) where
 
   line : (form : Form) (h : NodeHead) (s : Shape) → meaning_with items p fuel mean form h s
       ≡ meaning_of items p fuel form h s
-  line (Number value) h s = refl
-  line (Truth value) h s = refl
-  line UnitValue h s = refl
-  line (Variable key) h s = refl
-  line (Captured closure number name) h s = refl
-  line (Field base number) h s = refl
-  line (Index base index length) h s = refl
-  line (Deref base) h s = refl
-  line (Not operand) h s = refl
-  line (Negate operand) h s = refl
-  line (Arithmetic operator left right) h s = refl
-  line (Comparison operator left right) h s = refl
-  line (And left right) h s = refl
-  line (Or left right) h s = refl
-  line (Assign target value) h s = refl
   line (Call body args) h s =
       ap (λ (l : Means). on_all items p fuel h s l (λ site. effects.Call site body)) (all_of args)
   line (MethodCall body receiver args) h s =
@@ -73,14 +58,6 @@ module _ {W : Type 0} (items : ItemTable) (p : Effects W) (fuel : ℕ) where
   line (Closure closure captures) h s =
       ap (λ (l : Means). on_all items p fuel h s l (λ site. effects.Build site (effects.OfClosure closure)))
       (all_of captures)
-  line (NewBox content) h s = refl
-  line (Print operand) h s = refl
-  line Ask h s = refl
-  line (DropValue operand) h s = refl
-  line (Forget operand) h s = refl
-  line Panic h s = refl
-  line (Borrow unique base) h s = refl
-  line (Unsize trait_no operand) h s = refl
   line (Block stmts tail) h s =
       ap (λ (l : Means). a_value items p fuel h s (forms.block items p h l (if_any items p fuel mean tail)))
       (all_of stmts)
@@ -89,7 +66,6 @@ module _ {W : Type 0} (items : ItemTable) (p : Effects W) (fuel : ℕ) where
   line (Let pattern initialiser) h s =
       ap (λ (o : MaybeMeaning). evaluation.a_statement items p fuel h s (forms.letting items p h (mean pattern) o))
       (one_if_any initialiser)
-  line (Evaluate expression) h s = refl
   line (If condition consequent otherwise) h s =
       ap (λ (o : MaybeMeaning). a_scope items p fuel h s
       (evaluation.if_else items p fuel h (mean condition) (mean consequent) o)) (one_if_any otherwise)
@@ -103,23 +79,11 @@ module _ {W : Type 0} (items : ItemTable) (p : Effects W) (fuel : ℕ) where
         arm =
             forms.arm items p h (mean pattern) o (mean body);
       }) (one_if_any guard)
-  line (Loop body) h s = refl
-  line (While condition body) h s = refl
-  line (WhileLet pattern scrutinee body) h s = refl
   line (Break loop value) h s =
       ap (λ (o : MaybeMeaning). a_scope items p fuel h s (evaluation.breaks items p fuel loop h o)) (one_if_any value)
-  line (Continue loop) h s = refl
   line (Return value) h s =
       ap (λ (o : MaybeMeaning). a_scope items p fuel h s (evaluation.returns items p fuel h o)) (one_if_any value)
-  line Wildcard h s = refl
-  line (Binding name) h s = refl
-  line (NumberPattern value) h s = refl
-  line (TruthPattern value) h s = refl
-  line (StructPattern fields) h s = refl
-  line (VariantPattern variant is_test fields) h s = refl
-  line (TuplePattern elements) h s = refl
-  line (ArrayPattern elements) h s = refl
-  line (OrPattern alternatives) h s = refl
+  line other h s = refl
 
   closed : (n : Node) → with_parts items p fuel mean n ≡ mean n
   closed (node id at ty by form) = line form (head id ty by) (shape_of items form (head id ty by))

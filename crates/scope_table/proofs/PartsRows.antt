@@ -112,21 +112,8 @@ module _ (w : Within) (id : ℕ) (at : Pos) (ty : TyId) (by : Option Use) where
   form_rows : (own : Bool) (form : Form) → rows_in (of_own own form) (named id) form
       ≡ where_false (is_arm form) (rows_of_parts (named id) w (parts own form)) ++ names_of_let (of_own own form)
       (named id) form
-  form_rows own (Number value) = refl
-  form_rows own (Truth value) = refl
-  form_rows own UnitValue = refl
-  form_rows own (Variable key) = refl
-  form_rows own (Captured closure part name) = refl
-  form_rows true (Field base part) = one _
-  form_rows false (Field base part) = one _
   form_rows true (Index base index length) = two _ _
   form_rows false (Index base index length) = two _ _
-  form_rows true (Deref base) = one _
-  form_rows false (Deref base) = one _
-  form_rows true (Not operand) = one _
-  form_rows false (Not operand) = one _
-  form_rows true (Negate operand) = one _
-  form_rows false (Negate operand) = one _
   form_rows true (Arithmetic operator left right) = two _ _
   form_rows false (Arithmetic operator left right) = two _ _
   form_rows true (Comparison operator left right) = two _ _
@@ -153,20 +140,6 @@ module _ (w : Within) (id : ℕ) (at : Pos) (ty : TyId) (by : Option Use) where
   form_rows false (Array elements) = many _ _ (operand_steps (inner (named id) w) elements)
   form_rows true (Closure closure captures) = many _ _ (operand_steps (both_in (named id)) captures)
   form_rows false (Closure closure captures) = many _ _ (operand_steps (inner (named id) w) captures)
-  form_rows true (NewBox content) = one _
-  form_rows false (NewBox content) = one _
-  form_rows true (Print operand) = one _
-  form_rows false (Print operand) = one _
-  form_rows own Ask = refl
-  form_rows true (DropValue operand) = one _
-  form_rows false (DropValue operand) = one _
-  form_rows true (Forget operand) = one _
-  form_rows false (Forget operand) = one _
-  form_rows own Panic = refl
-  form_rows true (Borrow unique base) = one _
-  form_rows false (Borrow unique base) = one _
-  form_rows true (Unsize trait_no operand) = one _
-  form_rows false (Unsize trait_no operand) = one _
   form_rows true (Block statements tail) = many _ _ (block_steps (both_in (named id)) statements tail)
   form_rows false (Block statements tail) = many _ _ (block_steps (inner (named id) w) statements tail)
   form_rows own (Let pattern initialiser) = of_let own (node id at ty by (Let pattern initialiser)) pattern initialiser
@@ -182,9 +155,6 @@ module _ (w : Within) (id : ℕ) (at : Pos) (ty : TyId) (by : Option Use) where
       (pattern_rows (named id) (name_in (named id)) pattern) (alone_rows consequent) _ _ (alone_steps w otherwise)
   form_rows true (Match scrutinee arms) = more _ _ _ (arm_steps (both_in (named id)) arms)
   form_rows false (Match scrutinee arms) = more _ _ _ (arm_steps w arms)
-  form_rows own (Arm pattern guard body) = refl
-  form_rows true (Loop body) = one _
-  form_rows false (Loop body) = one _
   form_rows true (While condition body) = two _ _
   form_rows false (While condition body) = two _ _
   form_rows true (WhileLet pattern scrutinee body) =
@@ -195,9 +165,17 @@ module _ (w : Within) (id : ℕ) (at : Pos) (ty : TyId) (by : Option Use) where
       (pattern_rows (named id) (name_in (named id)) pattern) (alone_rows body) _ (sym (append-nil _))
   form_rows true (Break loop value) = many _ _ (any_steps (both_in (named id)) value)
   form_rows false (Break loop value) = many _ _ (any_steps w value)
-  form_rows own (Continue loop) = refl
   form_rows true (Return value) = many _ _ (any_steps (both_in (named id)) value)
   form_rows false (Return value) = many _ _ (any_steps w value)
+  form_rows own (Number value) = refl
+  form_rows own (Truth value) = refl
+  form_rows own UnitValue = refl
+  form_rows own (Variable key) = refl
+  form_rows own (Captured closure part name) = refl
+  form_rows own Ask = refl
+  form_rows own Panic = refl
+  form_rows own (Arm pattern guard body) = refl
+  form_rows own (Continue loop) = refl
   form_rows own Wildcard = refl
   form_rows own (Binding name) = refl
   form_rows own (NumberPattern value) = refl
@@ -207,62 +185,13 @@ module _ (w : Within) (id : ℕ) (at : Pos) (ty : TyId) (by : Option Use) where
   form_rows own (TuplePattern elements) = refl
   form_rows own (ArrayPattern elements) = refl
   form_rows own (OrPattern alternatives) = refl
+  form_rows true other = one _
+  form_rows false other = one _
 
   own_rows : (own : Bool) (form : Form) → arm_rows_of w.temporary (named id) form
       ≡ where_true (is_arm form) (row (named id) w.temporary nothing ∷ rows_of_parts (named id) w (parts own form))
-  own_rows own (Number value) = refl
-  own_rows own (Truth value) = refl
-  own_rows own UnitValue = refl
-  own_rows own (Variable key) = refl
-  own_rows own (Captured closure part name) = refl
-  own_rows own (Field base part) = refl
-  own_rows own (Index base index length) = refl
-  own_rows own (Deref base) = refl
-  own_rows own (Not operand) = refl
-  own_rows own (Negate operand) = refl
-  own_rows own (Arithmetic operator left right) = refl
-  own_rows own (Comparison operator left right) = refl
-  own_rows own (And left right) = refl
-  own_rows own (Or left right) = refl
-  own_rows own (Assign target value) = refl
-  own_rows own (Call body args) = refl
-  own_rows own (MethodCall body receiver args) = refl
-  own_rows own (VirtualCall trait_no method receiver args) = refl
-  own_rows own (ClosureCall body callee args) = refl
-  own_rows own (Make adt variant fields) = refl
-  own_rows own (Tuple elements) = refl
-  own_rows own (Array elements) = refl
-  own_rows own (Closure closure captures) = refl
-  own_rows own (NewBox content) = refl
-  own_rows own (Print operand) = refl
-  own_rows own Ask = refl
-  own_rows own (DropValue operand) = refl
-  own_rows own (Forget operand) = refl
-  own_rows own Panic = refl
-  own_rows own (Borrow unique base) = refl
-  own_rows own (Unsize trait_no operand) = refl
-  own_rows own (Block statements tail) = refl
-  own_rows own (Let pattern initialiser) = refl
-  own_rows own (Evaluate expression) = refl
-  own_rows own (If condition consequent otherwise) = refl
-  own_rows own (IfLet pattern scrutinee consequent otherwise) = refl
-  own_rows own (Match scrutinee arms) = refl
   own_rows own (Arm pattern guard body) = of_an_arm _ _ _ _ _ (alone_steps w guard)
-  own_rows own (Loop body) = refl
-  own_rows own (While condition body) = refl
-  own_rows own (WhileLet pattern scrutinee body) = refl
-  own_rows own (Break loop value) = refl
-  own_rows own (Continue loop) = refl
-  own_rows own (Return value) = refl
-  own_rows own Wildcard = refl
-  own_rows own (Binding name) = refl
-  own_rows own (NumberPattern value) = refl
-  own_rows own (TruthPattern value) = refl
-  own_rows own (StructPattern fields) = refl
-  own_rows own (VariantPattern variant is_test fields) = refl
-  own_rows own (TuplePattern elements) = refl
-  own_rows own (ArrayPattern elements) = refl
-  own_rows own (OrPattern alternatives) = refl
+  own_rows own other = refl
 
 has_rows : (own : Bool) (w : Within) (n : Node) → HasRowsOfItsParts own w n
 has_rows own w (node id at ty by form) = record {
@@ -297,30 +226,12 @@ module _ (w : Within) (H : Held) (id : ℕ) where
   stand own (Field base part) st g = (in_no_scope own w H id st, tt)
   stand own (Index base index length) st g = (in_no_scope own w H id st, tt)
   stand own (Deref base) st g = (in_no_scope own w H id st, tt)
-  stand own (Not operand) st g = (in_scope_for own w H id st g, tt)
-  stand own (Negate operand) st g = (in_scope_for own w H id st g, tt)
-  stand own (Arithmetic operator left right) st g = (in_scope_for own w H id st g, tt)
-  stand own (Comparison operator left right) st g = (in_scope_for own w H id st g, tt)
   stand own (And left right) st g = (in_no_scope own w H id st, tt)
   stand own (Or left right) st g = (in_no_scope own w H id st, tt)
-  stand own (Assign target value) st g = (in_scope_for own w H id st g, tt)
-  stand own (Call body args) st g = (in_scope_for own w H id st g, tt)
-  stand own (MethodCall body receiver args) st g = (in_scope_for own w H id st g, tt)
-  stand own (VirtualCall trait_no method receiver args) st g = (in_scope_for own w H id st g, tt)
-  stand own (ClosureCall body callee args) st g = (in_scope_for own w H id st g, tt)
-  stand own (Make adt variant fields) st g = (in_scope_for own w H id st g, tt)
-  stand own (Tuple elements) st g = (in_scope_for own w H id st g, tt)
-  stand own (Array elements) st g = (in_scope_for own w H id st g, tt)
-  stand own (Closure closure captures) st g = (in_scope_for own w H id st g, tt)
-  stand own (NewBox content) st g = (in_scope_for own w H id st g, tt)
-  stand own (Print operand) st g = (in_scope_for own w H id st g, tt)
   stand own Ask st g = tt
-  stand own (DropValue operand) st g = (in_scope_for own w H id st g, tt)
-  stand own (Forget operand) st g = (in_scope_for own w H id st g, tt)
   stand own Panic st g = tt
   stand own (Borrow unique base) st g = (in_no_scope own w H id st, tt)
   stand own (Unsize trait_no operand) st g = (st, tt)
-  stand own (Block statements tail) st g = (in_scope_for own w H id st g, tt)
   stand own (Let pattern initialiser) st g = (stands_alone (heads_of H) id, tt)
   stand own (Evaluate expression) st g = (stands_alone (heads_of H) id, tt)
   stand own (If condition consequent otherwise) st g = (in_no_scope own w H id st, tt)
@@ -343,6 +254,7 @@ module _ (w : Within) (H : Held) (id : ℕ) where
   stand own (TuplePattern elements) st g = tt
   stand own (ArrayPattern elements) st g = tt
   stand own (OrPattern alternatives) st g = tt
+  stand own other st g = (in_scope_for own w H id st g, tt)
 
 stands : (own : Bool) (w : Within) (H : Held) (n : Node) → StandsIn w (heads_of H) →
     Missing (heads_of H) (number_of n) → PartsStand (named (number_of n)) w H (parts own (form_of n))

@@ -50,59 +50,8 @@ module _ (P : ℕ → Type 0) where
     own_in (node id at ty by form) all = own_of id form all
 
     own_of : (id : ℕ) (form : Form) → P id × AllNumbers (nodes_in form) → P (own_scope_of (named id) form).0
-    own_of id (Number value) all = all.0
-    own_of id (Truth value) all = all.0
-    own_of id UnitValue all = all.0
-    own_of id (Variable key) all = all.0
-    own_of id (Captured closure part name) all = all.0
-    own_of id (Field base part) all = all.0
-    own_of id (Index base index length) all = all.0
-    own_of id (Deref base) all = all.0
-    own_of id (Not operand) all = all.0
-    own_of id (Negate operand) all = all.0
-    own_of id (Arithmetic operator left right) all = all.0
-    own_of id (Comparison operator left right) all = all.0
-    own_of id (And left right) all = all.0
-    own_of id (Or left right) all = all.0
-    own_of id (Assign target value) all = all.0
-    own_of id (Call body args) all = all.0
-    own_of id (MethodCall body receiver args) all = all.0
-    own_of id (VirtualCall trait_no method receiver args) all = all.0
-    own_of id (ClosureCall body callee args) all = all.0
-    own_of id (Make adt variant fields) all = all.0
-    own_of id (Tuple parts) all = all.0
-    own_of id (Array elements) all = all.0
-    own_of id (Closure closure captures) all = all.0
-    own_of id (NewBox content) all = all.0
-    own_of id (Print operand) all = all.0
-    own_of id Ask all = all.0
-    own_of id (DropValue operand) all = all.0
-    own_of id (Forget operand) all = all.0
-    own_of id Panic all = all.0
-    own_of id (Borrow unique base) all = all.0
     own_of id (Unsize trait_no operand) all = own_in operand all.1
-    own_of id (Block statements tail) all = all.0
-    own_of id (Let pattern initialiser) all = all.0
-    own_of id (Evaluate expression) all = all.0
-    own_of id (If condition consequent otherwise) all = all.0
-    own_of id (IfLet pattern scrutinee consequent otherwise) all = all.0
-    own_of id (Match scrutinee arms) all = all.0
-    own_of id (Arm pattern guard body) all = all.0
-    own_of id (Loop body) all = all.0
-    own_of id (While condition body) all = all.0
-    own_of id (WhileLet pattern scrutinee body) all = all.0
-    own_of id (Break loop value) all = all.0
-    own_of id (Continue loop) all = all.0
-    own_of id (Return value) all = all.0
-    own_of id Wildcard all = all.0
-    own_of id (Binding name) all = all.0
-    own_of id (NumberPattern value) all = all.0
-    own_of id (TruthPattern value) all = all.0
-    own_of id (StructPattern fields) all = all.0
-    own_of id (VariantPattern variant is_test fields) all = all.0
-    own_of id (TuplePattern parts) all = all.0
-    own_of id (ArrayPattern elements) all = all.0
-    own_of id (OrPattern alternatives) all = all.0
+    own_of id other all = all.0
 
   -- the names of a pattern
   module _ (t : NodeId) (name : MadeAround) (h : OfEntry P name.entry) where
@@ -112,114 +61,15 @@ module _ (P : ℕ → Type 0) where
           both (row (named id) t (by_name name form) ∷ part_rows t name form) (where_false (has_parts form) (idle t (nodes_in form))) (of_name form, in_parts form) (idle_unless (has_parts form) t (nodes_in form))
 
       of_name : (form : Form) → OfEntry P (by_name name form).entry
-      of_name (Number value) = tt
-      of_name (Truth value) = tt
-      of_name UnitValue = tt
-      of_name (Variable key) = tt
-      of_name (Captured closure part name) = tt
-      of_name (Field base part) = tt
-      of_name (Index base index length) = tt
-      of_name (Deref base) = tt
-      of_name (Not operand) = tt
-      of_name (Negate operand) = tt
-      of_name (Arithmetic operator left right) = tt
-      of_name (Comparison operator left right) = tt
-      of_name (And left right) = tt
-      of_name (Or left right) = tt
-      of_name (Assign target value) = tt
-      of_name (Call body args) = tt
-      of_name (MethodCall body receiver args) = tt
-      of_name (VirtualCall trait_no method receiver args) = tt
-      of_name (ClosureCall body callee args) = tt
-      of_name (Make adt variant fields) = tt
-      of_name (Tuple parts) = tt
-      of_name (Array elements) = tt
-      of_name (Closure closure captures) = tt
-      of_name (NewBox content) = tt
-      of_name (Print operand) = tt
-      of_name Ask = tt
-      of_name (DropValue operand) = tt
-      of_name (Forget operand) = tt
-      of_name Panic = tt
-      of_name (Borrow unique base) = tt
-      of_name (Unsize trait_no operand) = tt
-      of_name (Block statements tail) = tt
-      of_name (Let pattern initialiser) = tt
-      of_name (Evaluate expression) = tt
-      of_name (If condition consequent otherwise) = tt
-      of_name (IfLet pattern scrutinee consequent otherwise) = tt
-      of_name (Match scrutinee arms) = tt
-      of_name (Arm pattern guard body) = tt
-      of_name (Loop body) = tt
-      of_name (While condition body) = tt
-      of_name (WhileLet pattern scrutinee body) = tt
-      of_name (Break loop value) = tt
-      of_name (Continue loop) = tt
-      of_name (Return value) = tt
-      of_name Wildcard = tt
       of_name (Binding name) = h
-      of_name (NumberPattern value) = tt
-      of_name (TruthPattern value) = tt
-      of_name (StructPattern fields) = tt
-      of_name (VariantPattern variant is_test fields) = tt
-      of_name (TuplePattern parts) = tt
-      of_name (ArrayPattern elements) = tt
-      of_name (OrPattern alternatives) = tt
+      of_name other = tt
 
       in_parts : (form : Form) → AllEntries P (part_rows t name form)
-      in_parts (Number value) = tt
-      in_parts (Truth value) = tt
-      in_parts UnitValue = tt
-      in_parts (Variable key) = tt
-      in_parts (Captured closure part name) = tt
-      in_parts (Field base part) = tt
-      in_parts (Index base index length) = tt
-      in_parts (Deref base) = tt
-      in_parts (Not operand) = tt
-      in_parts (Negate operand) = tt
-      in_parts (Arithmetic operator left right) = tt
-      in_parts (Comparison operator left right) = tt
-      in_parts (And left right) = tt
-      in_parts (Or left right) = tt
-      in_parts (Assign target value) = tt
-      in_parts (Call body args) = tt
-      in_parts (MethodCall body receiver args) = tt
-      in_parts (VirtualCall trait_no method receiver args) = tt
-      in_parts (ClosureCall body callee args) = tt
-      in_parts (Make adt variant fields) = tt
-      in_parts (Tuple parts) = tt
-      in_parts (Array elements) = tt
-      in_parts (Closure closure captures) = tt
-      in_parts (NewBox content) = tt
-      in_parts (Print operand) = tt
-      in_parts Ask = tt
-      in_parts (DropValue operand) = tt
-      in_parts (Forget operand) = tt
-      in_parts Panic = tt
-      in_parts (Borrow unique base) = tt
-      in_parts (Unsize trait_no operand) = tt
-      in_parts (Block statements tail) = tt
-      in_parts (Let pattern initialiser) = tt
-      in_parts (Evaluate expression) = tt
-      in_parts (If condition consequent otherwise) = tt
-      in_parts (IfLet pattern scrutinee consequent otherwise) = tt
-      in_parts (Match scrutinee arms) = tt
-      in_parts (Arm pattern guard body) = tt
-      in_parts (Loop body) = tt
-      in_parts (While condition body) = tt
-      in_parts (WhileLet pattern scrutinee body) = tt
-      in_parts (Break loop value) = tt
-      in_parts (Continue loop) = tt
-      in_parts (Return value) = tt
-      in_parts Wildcard = tt
-      in_parts (Binding name) = tt
-      in_parts (NumberPattern value) = tt
-      in_parts (TruthPattern value) = tt
       in_parts (StructPattern fields) = in_fields fields
       in_parts (VariantPattern variant is_test fields) = in_fields fields
       in_parts (TuplePattern parts) = in_each parts
       in_parts (ArrayPattern elements) = in_each elements
-      in_parts (OrPattern alternatives) = tt
+      in_parts other = tt
 
       in_fields : (fields : Fields) → AllEntries P (pattern_rows_of_fields t name fields)
       in_fields no_field = tt
@@ -231,113 +81,11 @@ module _ (P : ℕ → Type 0) where
 
   let_entry : (id scope : NodeId) (form : Form) → P scope.0 → OfEntry P (let_name id scope form).entry
   let_entry id scope (Number value) h = h
-  let_entry id scope (Truth value) h = h
-  let_entry id scope UnitValue h = h
-  let_entry id scope (Variable key) h = h
-  let_entry id scope (Captured closure part name) h = h
-  let_entry id scope (Field base part) h = h
-  let_entry id scope (Index base index length) h = h
-  let_entry id scope (Deref base) h = h
-  let_entry id scope (Not operand) h = h
-  let_entry id scope (Negate operand) h = h
-  let_entry id scope (Arithmetic operator left right) h = h
-  let_entry id scope (Comparison operator left right) h = h
-  let_entry id scope (And left right) h = h
-  let_entry id scope (Or left right) h = h
-  let_entry id scope (Assign target value) h = h
-  let_entry id scope (Call body args) h = h
-  let_entry id scope (MethodCall body receiver args) h = h
-  let_entry id scope (VirtualCall trait_no method receiver args) h = h
-  let_entry id scope (ClosureCall body callee args) h = h
-  let_entry id scope (Make adt variant fields) h = h
-  let_entry id scope (Tuple parts) h = h
-  let_entry id scope (Array elements) h = h
-  let_entry id scope (Closure closure captures) h = h
-  let_entry id scope (NewBox content) h = h
-  let_entry id scope (Print operand) h = h
-  let_entry id scope Ask h = h
-  let_entry id scope (DropValue operand) h = h
-  let_entry id scope (Forget operand) h = h
-  let_entry id scope Panic h = h
-  let_entry id scope (Borrow unique base) h = h
-  let_entry id scope (Unsize trait_no operand) h = h
-  let_entry id scope (Block statements tail) h = h
-  let_entry id scope (Let pattern initialiser) h = h
-  let_entry id scope (Evaluate expression) h = h
-  let_entry id scope (If condition consequent otherwise) h = h
-  let_entry id scope (IfLet pattern scrutinee consequent otherwise) h = h
-  let_entry id scope (Match scrutinee arms) h = h
-  let_entry id scope (Arm pattern guard body) h = h
-  let_entry id scope (Loop body) h = h
-  let_entry id scope (While condition body) h = h
-  let_entry id scope (WhileLet pattern scrutinee body) h = h
-  let_entry id scope (Break loop value) h = h
-  let_entry id scope (Continue loop) h = h
-  let_entry id scope (Return value) h = h
-  let_entry id scope Wildcard h = h
-  let_entry id scope (Binding name) h = h
-  let_entry id scope (NumberPattern value) h = h
-  let_entry id scope (TruthPattern value) h = h
-  let_entry id scope (StructPattern fields) h = h
-  let_entry id scope (VariantPattern variant is_test fields) h = h
-  let_entry id scope (TuplePattern parts) h = h
-  let_entry id scope (ArrayPattern elements) h = h
-  let_entry id scope (OrPattern alternatives) h = h
+  let_entry id scope other h = h
 
   initial_entry : (id : NodeId) (form : Form) (n : Node) → P id.0 → OfEntry P (initial id form n).entry
-  initial_entry id (Number value) n h = if_value (is_place_form (form_of n)) (pending_in id) h
-  initial_entry id (Truth value) n h = if_value (is_place_form (form_of n)) (pending_in id) h
-  initial_entry id UnitValue n h = if_value (is_place_form (form_of n)) (pending_in id) h
-  initial_entry id (Variable key) n h = if_value (is_place_form (form_of n)) (pending_in id) h
-  initial_entry id (Captured closure part name) n h = if_value (is_place_form (form_of n)) (pending_in id) h
-  initial_entry id (Field base part) n h = if_value (is_place_form (form_of n)) (pending_in id) h
-  initial_entry id (Index base index length) n h = if_value (is_place_form (form_of n)) (pending_in id) h
-  initial_entry id (Deref base) n h = if_value (is_place_form (form_of n)) (pending_in id) h
-  initial_entry id (Not operand) n h = if_value (is_place_form (form_of n)) (pending_in id) h
-  initial_entry id (Negate operand) n h = if_value (is_place_form (form_of n)) (pending_in id) h
-  initial_entry id (Arithmetic operator left right) n h = if_value (is_place_form (form_of n)) (pending_in id) h
-  initial_entry id (Comparison operator left right) n h = if_value (is_place_form (form_of n)) (pending_in id) h
-  initial_entry id (And left right) n h = if_value (is_place_form (form_of n)) (pending_in id) h
-  initial_entry id (Or left right) n h = if_value (is_place_form (form_of n)) (pending_in id) h
-  initial_entry id (Assign target value) n h = if_value (is_place_form (form_of n)) (pending_in id) h
-  initial_entry id (Call body args) n h = if_value (is_place_form (form_of n)) (pending_in id) h
-  initial_entry id (MethodCall body receiver args) n h = if_value (is_place_form (form_of n)) (pending_in id) h
-  initial_entry id (VirtualCall trait_no method receiver args) n h = if_value (is_place_form (form_of n)) (pending_in id) h
-  initial_entry id (ClosureCall body callee args) n h = if_value (is_place_form (form_of n)) (pending_in id) h
-  initial_entry id (Make adt variant fields) n h = if_value (is_place_form (form_of n)) (pending_in id) h
-  initial_entry id (Tuple parts) n h = if_value (is_place_form (form_of n)) (pending_in id) h
-  initial_entry id (Array elements) n h = if_value (is_place_form (form_of n)) (pending_in id) h
-  initial_entry id (Closure closure captures) n h = if_value (is_place_form (form_of n)) (pending_in id) h
-  initial_entry id (NewBox content) n h = if_value (is_place_form (form_of n)) (pending_in id) h
-  initial_entry id (Print operand) n h = if_value (is_place_form (form_of n)) (pending_in id) h
-  initial_entry id Ask n h = if_value (is_place_form (form_of n)) (pending_in id) h
-  initial_entry id (DropValue operand) n h = if_value (is_place_form (form_of n)) (pending_in id) h
-  initial_entry id (Forget operand) n h = if_value (is_place_form (form_of n)) (pending_in id) h
-  initial_entry id Panic n h = if_value (is_place_form (form_of n)) (pending_in id) h
-  initial_entry id (Borrow unique base) n h = if_value (is_place_form (form_of n)) (pending_in id) h
-  initial_entry id (Unsize trait_no operand) n h = if_value (is_place_form (form_of n)) (pending_in id) h
-  initial_entry id (Block statements tail) n h = if_value (is_place_form (form_of n)) (pending_in id) h
-  initial_entry id (Let pattern initialiser) n h = if_value (is_place_form (form_of n)) (pending_in id) h
-  initial_entry id (Evaluate expression) n h = if_value (is_place_form (form_of n)) (pending_in id) h
-  initial_entry id (If condition consequent otherwise) n h = if_value (is_place_form (form_of n)) (pending_in id) h
-  initial_entry id (IfLet pattern scrutinee consequent otherwise) n h = if_value (is_place_form (form_of n)) (pending_in id) h
-  initial_entry id (Match scrutinee arms) n h = if_value (is_place_form (form_of n)) (pending_in id) h
-  initial_entry id (Arm pattern guard body) n h = if_value (is_place_form (form_of n)) (pending_in id) h
-  initial_entry id (Loop body) n h = if_value (is_place_form (form_of n)) (pending_in id) h
-  initial_entry id (While condition body) n h = if_value (is_place_form (form_of n)) (pending_in id) h
-  initial_entry id (WhileLet pattern scrutinee body) n h = if_value (is_place_form (form_of n)) (pending_in id) h
-  initial_entry id (Break loop value) n h = if_value (is_place_form (form_of n)) (pending_in id) h
-  initial_entry id (Continue loop) n h = if_value (is_place_form (form_of n)) (pending_in id) h
-  initial_entry id (Return value) n h = if_value (is_place_form (form_of n)) (pending_in id) h
-  initial_entry id Wildcard n h = if_value (is_place_form (form_of n)) (pending_in id) h
   initial_entry id (Binding name) n h = tt
-  initial_entry id (NumberPattern value) n h = if_value (is_place_form (form_of n)) (pending_in id) h
-  initial_entry id (TruthPattern value) n h = if_value (is_place_form (form_of n)) (pending_in id) h
-  initial_entry id (StructPattern fields) n h = if_value (is_place_form (form_of n)) (pending_in id) h
-  initial_entry id (VariantPattern variant is_test fields) n h = if_value (is_place_form (form_of n)) (pending_in id) h
-  initial_entry id (TuplePattern parts) n h = if_value (is_place_form (form_of n)) (pending_in id) h
-  initial_entry id (ArrayPattern elements) n h = if_value (is_place_form (form_of n)) (pending_in id) h
-  initial_entry id (OrPattern alternatives) n h = if_value (is_place_form (form_of n)) (pending_in id) h
+  initial_entry id other n h = if_value (is_place_form (form_of n)) (pending_in id) h
 
   mutual
     -- of a node, in scopes of which this holds
@@ -391,43 +139,6 @@ module _ (P : ℕ → Type 0) where
         (arm_of t id form all.0 all.1) (idle_unless (is_arm form) t (nodes_of (node id at ty by form)))
 
     arm_of : (t : NodeId) (id : ℕ) (form : Form) → P id → AllNumbers (nodes_in form) → AllEntries P (arm_rows_of t (named id) form)
-    arm_of t id (Number value) own all = tt
-    arm_of t id (Truth value) own all = tt
-    arm_of t id UnitValue own all = tt
-    arm_of t id (Variable key) own all = tt
-    arm_of t id (Captured closure part name) own all = tt
-    arm_of t id (Field base part) own all = tt
-    arm_of t id (Index base index length) own all = tt
-    arm_of t id (Deref base) own all = tt
-    arm_of t id (Not operand) own all = tt
-    arm_of t id (Negate operand) own all = tt
-    arm_of t id (Arithmetic operator left right) own all = tt
-    arm_of t id (Comparison operator left right) own all = tt
-    arm_of t id (And left right) own all = tt
-    arm_of t id (Or left right) own all = tt
-    arm_of t id (Assign target value) own all = tt
-    arm_of t id (Call body args) own all = tt
-    arm_of t id (MethodCall body receiver args) own all = tt
-    arm_of t id (VirtualCall trait_no method receiver args) own all = tt
-    arm_of t id (ClosureCall body callee args) own all = tt
-    arm_of t id (Make adt variant fields) own all = tt
-    arm_of t id (Tuple parts) own all = tt
-    arm_of t id (Array elements) own all = tt
-    arm_of t id (Closure closure captures) own all = tt
-    arm_of t id (NewBox content) own all = tt
-    arm_of t id (Print operand) own all = tt
-    arm_of t id Ask own all = tt
-    arm_of t id (DropValue operand) own all = tt
-    arm_of t id (Forget operand) own all = tt
-    arm_of t id Panic own all = tt
-    arm_of t id (Borrow unique base) own all = tt
-    arm_of t id (Unsize trait_no operand) own all = tt
-    arm_of t id (Block statements tail) own all = tt
-    arm_of t id (Let pattern initialiser) own all = tt
-    arm_of t id (Evaluate expression) own all = tt
-    arm_of t id (If condition consequent otherwise) own all = tt
-    arm_of t id (IfLet pattern scrutinee consequent otherwise) own all = tt
-    arm_of t id (Match scrutinee arms) own all = tt
     arm_of t id (Arm pattern guard body) own all =
         let before = numbers_left (nodes_of pattern ++ nodes_if_any guard) (nodes_of body) all in
         let last = numbers_right (nodes_of pattern ++ nodes_if_any guard) (nodes_of body) all in
@@ -436,21 +147,7 @@ module _ (P : ℕ → Type 0) where
         (tt, alone_any guard (numbers_right (nodes_of pattern) (nodes_if_any guard) before))
         (in_pattern t (name_in (named id)) own pattern))
         (in_node (alone body) nothing body (own_in body last) (own_in body last) tt last)
-    arm_of t id (Loop body) own all = tt
-    arm_of t id (While condition body) own all = tt
-    arm_of t id (WhileLet pattern scrutinee body) own all = tt
-    arm_of t id (Break loop value) own all = tt
-    arm_of t id (Continue loop) own all = tt
-    arm_of t id (Return value) own all = tt
-    arm_of t id Wildcard own all = tt
-    arm_of t id (Binding name) own all = tt
-    arm_of t id (NumberPattern value) own all = tt
-    arm_of t id (TruthPattern value) own all = tt
-    arm_of t id (StructPattern fields) own all = tt
-    arm_of t id (VariantPattern variant is_test fields) own all = tt
-    arm_of t id (TuplePattern parts) own all = tt
-    arm_of t id (ArrayPattern elements) own all = tt
-    arm_of t id (OrPattern alternatives) own all = tt
+    arm_of t id other own all = tt
 
     pub arms_in : (t : NodeId) (nodes : Nodes) → AllNumbers (nodes_among nodes) → AllEntries P (rows_of_arms t nodes)
     arms_in t no_node all = tt
@@ -460,11 +157,6 @@ module _ (P : ℕ → Type 0) where
         (arms_in t rest (numbers_right (nodes_of first) (nodes_among rest) all))
 
     pub in_form : (w : Within) (id : ℕ) (form : Form) → P w.temporary.0 → P w.innermost.0 → P id → AllNumbers (nodes_in form) → AllEntries P (rows_in w (named id) form)
-    in_form w id (Number value) t i own all = tt
-    in_form w id (Truth value) t i own all = tt
-    in_form w id UnitValue t i own all = tt
-    in_form w id (Variable key) t i own all = tt
-    in_form w id (Captured closure part name) t i own all = tt
     in_form w id (Field base part) t i own all = in_node w (reached_in w.temporary base) base t i (of_reached w.temporary base t) all
     in_form w id (Index base index length) t i own all =
         both (rows w (reached_in w.temporary base) base) (rows w nothing index)
@@ -512,10 +204,8 @@ module _ (P : ℕ → Type 0) where
     in_form w id (Closure closure captures) t i own all = operands_in w id captures t own all
     in_form w id (NewBox content) t i own all = in_node (inner (named id) w) (entry_in (named id) content) content t own own all
     in_form w id (Print operand) t i own all = in_node (inner (named id) w) (entry_in (named id) operand) operand t own own all
-    in_form w id Ask t i own all = tt
     in_form w id (DropValue operand) t i own all = in_node (inner (named id) w) (entry_in (named id) operand) operand t own own all
     in_form w id (Forget operand) t i own all = in_node (inner (named id) w) (entry_in (named id) operand) operand t own own all
-    in_form w id Panic t i own all = tt
     in_form w id (Borrow unique base) t i own all = in_node w (reached_in w.temporary base) base t i (of_reached w.temporary base t) all
     in_form w id (Unsize trait_no operand) t i own all = in_node w nothing operand t i tt all
     in_form w id (Block statements tail) t i own all =
@@ -544,7 +234,6 @@ module _ (P : ℕ → Type 0) where
         both (rows w (reached_in w.temporary scrutinee) scrutinee) (rows_of_arms w.temporary arms)
         (in_node w (reached_in w.temporary scrutinee) scrutinee t i (of_reached w.temporary scrutinee t) (numbers_left (nodes_of scrutinee) (nodes_among arms) all))
         (arms_in w.temporary arms (numbers_right (nodes_of scrutinee) (nodes_among arms) all))
-    in_form w id (Arm pattern guard body) t i own all = tt
     in_form w id (Loop body) t i own all = in_node (alone body) nothing body (own_in body all) (own_in body all) tt all
     in_form w id (While condition body) t i own all =
         both (rows (alone condition) nothing condition) (rows (alone body) nothing body)
@@ -557,17 +246,8 @@ module _ (P : ℕ → Type 0) where
         (in_pattern (named id) (name_in (named id)) own pattern))
         (in_node (alone body) nothing body (own_in body (numbers_right (nodes_of pattern ++ nodes_of scrutinee) (nodes_of body) all)) (own_in body (numbers_right (nodes_of pattern ++ nodes_of scrutinee) (nodes_of body) all)) tt (numbers_right (nodes_of pattern ++ nodes_of scrutinee) (nodes_of body) all))
     in_form w id (Break loop value) t i own all = rows_any w value t i all
-    in_form w id (Continue loop) t i own all = tt
     in_form w id (Return value) t i own all = rows_any w value t i all
-    in_form w id Wildcard t i own all = tt
-    in_form w id (Binding name) t i own all = tt
-    in_form w id (NumberPattern value) t i own all = tt
-    in_form w id (TruthPattern value) t i own all = tt
-    in_form w id (StructPattern fields) t i own all = tt
-    in_form w id (VariantPattern variant is_test fields) t i own all = tt
-    in_form w id (TuplePattern parts) t i own all = tt
-    in_form w id (ArrayPattern elements) t i own all = tt
-    in_form w id (OrPattern alternatives) t i own all = tt
+    in_form w id other t i own all = tt
 
   pub of_alone : (n : Node) → AllNumbers (nodes_of n) → AllEntries P (rows (alone n) nothing n)
   of_alone n all = in_node (alone n) nothing n (own_in n all) (own_in n all) tt all

@@ -47,6 +47,7 @@ pub mod PassKnownStores
 pub mod PassKnownTests
 pub mod PassLeft
 pub mod PassMadeCells
+pub mod PassMadeKinds
 pub mod PassMadeForms
 pub mod PassMadeRules
 pub mod PassMarksSplit
@@ -57,6 +58,7 @@ pub mod PassPlaceMade
 pub mod PassPlacesBodies
 pub mod PassPlacesCalm
 pub mod PassPlacesEffects
+pub mod PassPlacesInside
 pub mod PassPlacesForms
 pub mod PassPlacesHold
 pub mod PassPlacesIndex
@@ -79,6 +81,7 @@ pub mod PassProtectRun
 pub mod PassReplacedBy
 pub mod PassResultBodies
 pub mod PassResultEffects
+pub mod PassResultKinds
 pub mod PassResultForms
 pub mod PassResultRules
 pub mod PassWatched

@@ -42,8 +42,8 @@ use Rattle.soundness_frame.proofs.PassFrame as frame
 use Rattle.soundness_frame.proofs.PassFrameBodies.{any_place}
 use Rattle.soundness_frame.proofs.PassFrameCalls as calls
 use Rattle.soundness_frame.proofs.PassFrameFacts.{named_by}
-use Rattle.soundness_frame.proofs.PassFrameForms as frames
-use Rattle.soundness_frame.proofs.PassFrameForms.{Calls, a_call, a_method, a_virtual, a_closure, moved_nodes}
+use Rattle.soundness_frame.proofs.PassFrameHeads as pass_frame_heads
+use Rattle.soundness_frame.proofs.PassFrameHeads.{Calls, a_call, a_method, a_virtual, a_closure, moved_nodes}
 use Rattle.soundness_cells.proofs.PassRefilled.{not_mark}
 use Rattle.soundness_cells.proofs.PassRest.{own_local}
 use Rattle.soundness_cells.proofs.PassRestCalls.{left_call}
@@ -356,7 +356,7 @@ module _ (p : ProgramTree) (sound : IsSound p) where
 
     by_number : (at_node : ℕ) (ns : Nodes) → all_moved at_node (meanings p.items (run p.items b also) fuel ns)
         ≡ moved_nodes at_node ns
-    by_number at_node ns = frames.all_by_number p.items (run p.items b also) (not_mark 8) (Does_ p.items b also)
+    by_number at_node ns = pass_frame_heads.all_by_number p.items (run p.items b also) (not_mark 8) (Does_ p.items b also)
         (Drops p.items b also) any_place any_place any_place (I p.items b also) (keeps p.items b also) (Stands p b) fuel
         at_node ns
 

@@ -1,6 +1,6 @@
 -- Each argument of a call leaves what those before it name: the cells of its nodes are others, and the places of which
 -- the rule of borrows tells that it changes them do not overlap what they name.
-use Rattle.std.proofs.Common.{◌≡◌, inl, inr, ℕ, ◌<◌, ◌==◌, ◌&&◌, Bool, true, false, List, [], ◌∷◌, ◌++◌, map, Option, Some, None, if◌then◌else◌, refl, ap, sym, subst, arith}
+use Rattle.std.proofs.Common.{◌≡◌, inl, inr, ℕ, ◌<◌, ◌&&◌, Bool, true, false, List, [], ◌∷◌, ◌++◌, map, Option, Some, None, refl, ap, sym, subst, arith}
 use Rattle.std.specs.Prelude.{slice_get}
 use Rattle.std.proofs.lemmas.Bool.{false≢true}
 use Rattle.mir_base.specs.declared.place_in_text.Pos.{Pos}
@@ -19,24 +19,24 @@ use Rattle.typing_rules.specs.Accesses as rules
 use Rattle.typing_rules.specs.Accesses.{AccessPlace, Accessed, Argument, begin_alike, changes, is_against, told, place_of, conflicts_among}
 use Rattle.well_typed.specs.Claim.{Holds}
 use Rattle.well_typed.specs.Nodes as typing
-use Rattle.well_typed.specs.Places.{Standing, Passed, Used, borrow_by, is_borrow, form_of}
+use Rattle.well_typed.specs.Places.{Standing, Passed}
 use Rattle.soundness_values.specs.Laws.{IsSound}
 use Rattle.soundness_values.proofs.AlsoTests.{Also}
 use Rattle.soundness_values.proofs.NoOverlap.{Seen, SeenIf, is_seen, seen}
 use Rattle.soundness_frame.proofs.PassWithin.{Outer}
 use Rattle.soundness.proofs.PassAloneApart.{OffOne, OffAll, Nameless, AllNameless, all_kept, cell_off, place_off}
 use Rattle.soundness.proofs.PassAloneArgs.{Arg}
-use Rattle.soundness.proofs.PassAloneBrings.{named_form, named_arg, AllLeave, Leaves, names_nothing}
+use Rattle.soundness.proofs.PassAloneBrings.{named_arg, AllLeave, Leaves, names_nothing}
 use Rattle.soundness.proofs.PassAloneLeaves as leaves
 use Rattle.soundness.proofs.PassAloneLeaves.{LeftAbove, leaves_so}
 use Rattle.soundness.proofs.PassAloneLeft.{block_rises}
 use Rattle.soundness.proofs.PassAlonePairs.{Placed}
 use Rattle.soundness.proofs.PassAlonePassed.{Argued, AllTold}
-use Rattle.soundness.proofs.PassAloneRun.{InBlock, Of, Stands}
+use Rattle.soundness.proofs.PassAloneRun.{InBlock, Of}
 use Rattle.soundness.proofs.PassAloneTogether.{arg_placed, none_behind}
 use Rattle.soundness.proofs.PassBorrowApart.{no_index}
 use Rattle.soundness.proofs.PassCallsAlone as alone
-use Rattle.soundness_cells.proofs.PassCells.{Above, NodeIn, node_left, node_right, above_in}
+use Rattle.soundness_cells.proofs.PassCells.{Above, NodeIn, above_in}
 use Rattle.soundness_frame.proofs.PassConflicts.{EachAccess, EachArgument, Apart, change_apart, first_apart, rest_apart}
 use Rattle.soundness_cells.proofs.PassFacts.{Standpoint, context}
 use Rattle.soundness_frame.proofs.PassFrameActs.{DestSo}
@@ -46,7 +46,8 @@ use Rattle.soundness_frame.proofs.PassKeys.{KeysIn, keys_in_more}
 use Rattle.soundness_frame.proofs.PassPlacesApart.{locals_differ}
 use Rattle.soundness_frame.proofs.PassTold as here
 use Rattle.soundness_frame.proofs.PassTold.{ids, IsValue, KnownOf, RootIf, Here, IfRoot, Told}
-use Rattle.soundness_frame.proofs.PassToldForms.{Saying, node_within, node_above}
+use Rattle.soundness_frame.proofs.PassToldBelow.{Saying, node_above}
+use Rattle.soundness_frame.proofs.PassToldForms.{node_within}
 use Rattle.soundness_frame.proofs.PassToldPlaces.{AllOwned, MaySeen, AllPermit}
 use Rattle.soundness_frame.proofs.PassWithin as within
 

@@ -1,6 +1,6 @@
 -- What is given of each node that calls: the parameters, that the locals of the arguments differ, and that none is in
 -- what another names.
-use Rattle.std.proofs.Common.{◌≡◌, ◌&&◌, not, Bool, true, false, ℕ, List, [], ◌∷◌, Option, Some, None, is_none, is_some, if◌then◌else◌, refl, sym, subst}
+use Rattle.std.proofs.Common.{◌≡◌, ◌&&◌, not, true, false, ℕ, List, [], ◌∷◌, Option, Some, None, is_none, is_some, if◌then◌else◌, refl, sym, subst}
 use Rattle.std.specs.Prelude.{slice_get, option_and_then}
 use Rattle.std.specs.Cmp.{second_so}
 use Rattle.std.proofs.lemmas.Bool.{false≢true}
@@ -37,7 +37,7 @@ use Rattle.soundness.proofs.PassAloneTyped.{Typed, typed_call}
 use Rattle.soundness_frame.proofs.PassArgsLeft.{Distinct, AllOff, named_of}
 use Rattle.soundness.proofs.PassCallsAlone as alone
 use Rattle.soundness_frame.proofs.PassFrameBodies.{any_place}
-use Rattle.soundness_frame.proofs.PassFrameForms.{Calls}
+use Rattle.soundness_frame.proofs.PassFrameHeads.{Calls}
 use Rattle.soundness_cells.proofs.PassRest.{own_local}
 use Rattle.soundness_frame.proofs.PassTold.{Here, here_in}
 use Rattle.soundness_frame.proofs.PassToldPlaces.{Rises}

@@ -15,7 +15,7 @@ use Rattle.soundness_cells.proofs.PassCells.{Above, NodeIn, above_in}
 use Rattle.soundness_cells.proofs.PassFacts.{Standpoint, context}
 use Rattle.soundness_frame.proofs.PassKeys.{Keys, keys_more, place_keys}
 use Rattle.soundness_frame.proofs.PassTold.{KnownOf, Here}
-use Rattle.soundness_frame.proofs.PassToldForms.{node_above}
+use Rattle.soundness_frame.proofs.PassToldBelow.{node_above}
 use Rattle.soundness_frame.proofs.PassToldPlaces.{is_alias, above_right}
 
 -- keys below some nodes are the number of none of them

@@ -33,8 +33,10 @@ use Rattle.soundness_frame.proofs.PassFrameCalls as calls
 use Rattle.soundness_frame.proofs.PassFrameCalls.{Ends, called_by, all_end}
 use Rattle.soundness_frame.proofs.PassFrameCells.{Cells, cells_same}
 use Rattle.soundness_frame.proofs.PassFrameFacts.{Fixed, named_by}
+use Rattle.soundness_frame.proofs.PassFrameHeads as pass_frame_heads
+use Rattle.soundness_frame.proofs.PassFrameOperands as pass_frame_operands
 use Rattle.soundness_frame.proofs.PassFrameForms as frames
-use Rattle.soundness_frame.proofs.PassFrameForms.{Calls, a_call, a_method, a_virtual, a_closure, moved_nodes}
+use Rattle.soundness_frame.proofs.PassFrameHeads.{Calls, a_call, a_method, a_virtual, a_closure, moved_nodes}
 use Rattle.soundness_frame.proofs.PassFrameRuns.{MayAt}
 use Rattle.soundness_cells.proofs.PassRest.{own_local}
 use Rattle.soundness_frame.proofs.PassStays.{MayCall, MayIfUnique, stay_same, stay_sure}
@@ -97,7 +99,7 @@ module _ (p : ProgramTree) (sound : IsSound p) (n fuel : ℕ) (b : BodyTree) (at
         by_form form w later = later
 
     by_number : (at_node : ℕ) (ns : Nodes) → all_moved at_node (Ms ns) ≡ moved_nodes at_node ns
-    by_number at_node ns = frames.all_by_number p.items q (any_halt p.items b also May facts0 cells0)
+    by_number at_node ns = pass_frame_heads.all_by_number p.items q (any_halt p.items b also May facts0 cells0)
         (Does_ p.items b also) (Drops p.items b also) May_at May_at May_at Kept (keeping p.items b also May facts0
         cells0)
         (Above least) fuel at_node ns
@@ -128,7 +130,7 @@ module _ (p : ProgramTree) (sound : IsSound p) (n fuel : ℕ) (b : BodyTree) (at
         (all_named p.items b v (args around.aliases ns) j)
 
     -- each call inside changes only what its own arguments name
-    pub at_calls : frames.AtCalls p.items q (any_halt p.items b also May facts0 cells0) (Does_ p.items b also)
+    pub at_calls : pass_frame_operands.AtCalls p.items q (any_halt p.items b also May facts0 cells0) (Does_ p.items b also)
         (Drops p.items b also) May_at May_at May_at Kept (keeping p.items b also May facts0 cells0) (Above least) fuel
     at_calls = record {
       called_kept = λ form ns action c id ty by s around loops a w says ev own_cell own to d.
@@ -146,11 +148,11 @@ module _ (p : ProgramTree) (sound : IsSound p) (n fuel : ℕ) (b : BodyTree) (at
           cells0)
           (λ v i. i.1) ns around [] ev k.fit k.leave) S v i tt)
           (λ key x v i j. acts_in p.items b also May facts0 cells0 (action (site_in id key) (all_moved id (Ms ns))) v
-          (frames.called_allowed p.items q (any_halt p.items b also May facts0 cells0) (Does_ p.items b also)
+          (pass_frame_operands.called_allowed p.items q (any_halt p.items b also May facts0 cells0) (Does_ p.items b also)
           (Drops p.items b also) May_at May_at May_at Kept (keeping p.items b also May facts0 cells0) (Above least) fuel
           form ns
           action c id key (all_moved id (Ms ns)) x
-          (frames.all_taken p.items q (any_halt p.items b also May facts0 cells0) (Does_ p.items b also)
+          (pass_frame_operands.all_taken p.items q (any_halt p.items b also May facts0 cells0) (Does_ p.items b also)
           (Drops p.items b also) May_at May_at May_at Kept (keeping p.items b also May facts0 cells0) (Above least) fuel
           id around
           (Ms ns) ev))
@@ -162,7 +164,7 @@ module _ (p : ProgramTree) (sound : IsSound p) (n fuel : ℕ) (b : BodyTree) (at
           (makes_none p.items b also form ns action c (site_in id key) (all_moved id (Ms ns))) i) own_cell d;
     }
 
-    pub saying : frames.Telling p.items (Does_ p.items b also) (Drops p.items b also) (Above least)
+    pub saying : pass_frame_heads.Telling p.items (Does_ p.items b also) (Drops p.items b also) (Above least)
     saying = record {
       borrows = λ places loops id unique base s. (telling p b also).borrows places loops id unique base s.0;
       assigns = λ places loops id place value s. tt;
@@ -182,7 +184,7 @@ module _ (p : ProgramTree) (sound : IsSound p) (n fuel : ℕ) (b : BodyTree) (at
         within.Within p.items May_at (Above least) around.aliases loops m → (S : Scopes) (v : V) → Kept v →
         Ends Kept ((M m).evaluate around false (Into (M m).head.id) S v)
     stays_so m around loops a w S v k = to_ends ((M m).evaluate around false (Into (M m).head.id) S v)
-        ((frames.operand_from p.items q (any_halt p.items b also May facts0 cells0) (Does_ p.items b also)
+        ((pass_frame_operands.operand_from p.items q (any_halt p.items b also May facts0 cells0) (Does_ p.items b also)
         (Drops p.items b also) May_at May_at May_at Kept (keeping p.items b also May facts0 cells0) (Above least) fuel m
         around
         loops w
@@ -198,7 +200,7 @@ module _ (p : ProgramTree) (sound : IsSound p) (n fuel : ℕ) (b : BodyTree) (at
         within.Within p.items May_at (Above least) around.aliases loops m → (S : Scopes) (v : V) → Kept v →
         Ends Kept (forms.alone p.items q around (M m) (Into (M m).head.id) S v)
     stays_alone m around loops a w S v k = to_ends (forms.alone p.items q around (M m) (Into (M m).head.id) S v)
-        ((frames.body_from p.items q (any_halt p.items b also May facts0 cells0) (Does_ p.items b also)
+        ((pass_frame_operands.body_from p.items q (any_halt p.items b also May facts0 cells0) (Does_ p.items b also)
         (Drops p.items b also) May_at May_at May_at Kept (keeping p.items b also May facts0 cells0) (Above least) fuel m
         around loops w
         (λ own to d. frames.evaluated p.items q (any_halt p.items b also May facts0 cells0) (Does_ p.items b also)

@@ -1,12 +1,12 @@
 -- What is left of calls: that each argument leaves what earlier ones name, and that what the arguments name suits the
 -- parameters and lies apart, which the text tells.
-use Rattle.std.proofs.Common.{◌≡◌, inr, ℕ, List, [], ◌∷◌, Some, refl, ap, sym, ◌∙◌, subst}
+use Rattle.std.proofs.Common.{◌≡◌, ℕ, List, [], ◌∷◌, Some, refl, ap, ◌∙◌}
 use Rattle.std.specs.Prelude.{slice_get}
 use Rattle.mir_ty.specs.declared.ty.TyId.{TyId}
 use Rattle.store_model.specs.Effects.{EffectSite, Operand, Action}
 use Rattle.typed_tree.specs.Nodes.{nodes_of, nodes_in, nodes_among, param_nodes}
 use Rattle.typed_tree.specs.Tree as tree
-use Rattle.typed_tree.specs.Tree.{node, Node, Form, Nodes, no_node, a_node, BodyTree, ProgramTree}
+use Rattle.typed_tree.specs.Tree.{node, Form, Nodes, no_node, a_node, BodyTree, ProgramTree}
 use Rattle.src_meaning.specs.Forms.{LoopsAndGuards}
 use Rattle.src_meaning.specs.Locals.OfBody.{local_of}
 use Rattle.src_meaning.specs.Shape as shapes
@@ -18,10 +18,9 @@ use Rattle.soundness.proofs.PassAloneBrings.{named_form, args_of, AllFit, AllLea
 use Rattle.soundness.proofs.PassAloneRun.{I, Does_, Drops, keeps, Stands, alone_by_calls}
 use Rattle.soundness.proofs.PassCallsAlone as alone
 use Rattle.soundness.proofs.PassCallsAlone.{AloneHolds}
-use Rattle.soundness_cells.proofs.PassCells.{NodeIn}
 use Rattle.soundness_cells.proofs.PassFirst.{body_at}
 use Rattle.soundness_frame.proofs.PassFrameBodies.{any_place}
-use Rattle.soundness_frame.proofs.PassFrameForms.{Calls, a_call, a_method, a_virtual, a_closure}
+use Rattle.soundness_frame.proofs.PassFrameHeads.{Calls, a_call, a_method, a_virtual, a_closure}
 use Rattle.soundness_cells.proofs.PassRefilled.{not_mark}
 use Rattle.soundness_frame.proofs.PassToldPlaces.{Rises, rises_right}
 

@@ -29,7 +29,7 @@ use Rattle.soundness_cells.proofs.PassFacts.{Standpoint, context}
 use Rattle.soundness_frame.proofs.PassFrameBodies.{any_place}
 use Rattle.soundness_cells.proofs.PassRest.{own_local}
 use Rattle.soundness_frame.proofs.PassTold.{Here}
-use Rattle.soundness_frame.proofs.PassToldForms.{node_above}
+use Rattle.soundness_frame.proofs.PassToldBelow.{node_above}
 use Rattle.soundness_frame.proofs.PassToldPlaces.{Rises, above_left, above_right, rises_right}
 
 -- one of some arguments, and the nodes inside it

@@ -1,10 +1,10 @@
 -- Cells around a call, into which values of forms around it go, are none that its arguments name; so each argument
 -- leaves
 -- what earlier ones name, whatever it does.
-use Rattle.std.proofs.Common.{◌≡◌, inl, inr, ℕ, ◌<◌, Bool, true, false, List, [], ◌∷◌, Some, refl, sym, subst, arith}
+use Rattle.std.proofs.Common.{◌≡◌, inl, inr, ℕ, ◌<◌, Bool, true, false, List, [], Some, refl, sym, subst, arith}
 use Rattle.std.specs.Prelude.{slice_get}
 use Rattle.store_model.specs.Effects.{EffectSite, Operand, Action}
-use Rattle.store_model.specs.Places.Place.{Place, whole_local}
+use Rattle.store_model.specs.Places.Place.{whole_local}
 use Rattle.typed_tree.specs.Nodes.{number_of, nodes_of, nodes_in, nodes_among}
 use Rattle.typed_tree.specs.Tree as tree
 use Rattle.typed_tree.specs.Tree.{Node, node, Form, Nodes, BodyTree, ProgramTree}
@@ -14,7 +14,7 @@ use Rattle.src_meaning.specs.Shape as shapes
 use Rattle.src_meaning.specs.Shape.{shape}
 use Rattle.well_typed.specs.Claim.{Holds}
 use Rattle.well_typed.specs.Nodes as typing
-use Rattle.well_typed.specs.Places.{InScope, Passed, Used, borrow_by}
+use Rattle.well_typed.specs.Places.{InScope, Used, borrow_by}
 use Rattle.soundness_values.specs.Laws.{IsSound}
 use Rattle.soundness_values.proofs.AlsoTests.{Also}
 use Rattle.soundness.proofs.PassAloneApart.{cell_off}
@@ -31,7 +31,7 @@ use Rattle.soundness_cells.proofs.PassCells.{Above, NodeIn, above_in, rising}
 use Rattle.soundness_cells.proofs.PassFacts.{Standpoint, context, beside}
 use Rattle.soundness_frame.proofs.PassFrameActs.{DestSo}
 use Rattle.soundness_frame.proofs.PassFrameBodies.{any_place}
-use Rattle.soundness_frame.proofs.PassFrameForms.{Calls}
+use Rattle.soundness_frame.proofs.PassFrameHeads.{Calls}
 use Rattle.soundness_frame.proofs.PassKeys.{Keys, place_keys}
 use Rattle.soundness_frame.proofs.PassTold as here
 use Rattle.soundness_frame.proofs.PassTold.{ids, Here}

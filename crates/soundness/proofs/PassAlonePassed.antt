@@ -1,29 +1,20 @@
 -- The arguments of a call as the rule of borrows compares them: for each node of an argument what it refers to, and the
 -- accesses that are told of it; nothing conflicts among them.
-use Rattle.std.proofs.Common.{◌≡◌, ℕ, ◌&&◌, not, Bool, true, false, List, [], ◌∷◌, Option, Some, None, is_none, refl, sym, ◌∙◌}
-use Rattle.std.specs.Prelude.{slice_get}
-use Rattle.std.specs.Cmp.{first_so}
+use Rattle.std.proofs.Common.{◌≡◌, ℕ, false, List, [], ◌∷◌, Option, None, refl, sym}
 use Rattle.std.proofs.lemmas.Bool.{false≢true}
 use Rattle.mir_base.specs.declared.place_in_text.Pos.{Pos}
-use Rattle.mir_ty.specs.declared.def.Sig.{Sig}
-use Rattle.mir_ty.specs.declared.ty.TyId.{TyId}
-use Rattle.mir_ty.specs.ItemTable.{ItemTable, type_at}
+use Rattle.mir_ty.specs.ItemTable.{ItemTable}
 use Rattle.store_model.specs.Effects.{EffectSite, Operand, Action}
-use Rattle.store_model.specs.Places.Place.{Place, is_reference}
-use Rattle.typed_tree.specs.declared.node.Use.{Use}
+use Rattle.store_model.specs.Places.Place.{Place}
 use Rattle.typed_tree.specs.Tree as tree
-use Rattle.typed_tree.specs.Tree.{Node, node, Form, Nodes, no_node, a_node, ProgramTree}
+use Rattle.typed_tree.specs.Tree.{Node, node, Form, Nodes, no_node, a_node}
 use Rattle.typing_rules.specs.Accesses as rules
-use Rattle.typing_rules.specs.Accesses.{Argument, Referring, told, told_form, arguments, argument, all_told, receiver_of, conflicting, conflicts_among}
-use Rattle.well_typed.specs.Claim.{Holds, fact, both}
-use Rattle.well_typed.specs.Nodes as typing
-use Rattle.well_typed.specs.Places.{Context, Passed, form_of, is_borrow, is_taken, stands}
-use Rattle.well_typed.specs.Types as types
+use Rattle.typing_rules.specs.Accesses.{Argument, Referring, told, told_form, arguments, all_told, receiver_of, conflicting, conflicts_among}
+use Rattle.well_typed.specs.Places.{form_of, is_borrow}
 use Rattle.soundness_frame.proofs.PassConflicts.{EachArgument}
-use Rattle.soundness_frame.proofs.PassFrameForms.{Calls, a_call, a_method, a_virtual, a_closure}
+use Rattle.soundness_frame.proofs.PassFrameHeads.{Calls, a_call, a_method, a_virtual, a_closure}
 use Rattle.soundness_frame.proofs.PassTold as here
 use Rattle.soundness_frame.proofs.PassTold.{KnownOf, Told}
-use Rattle.soundness_frame.proofs.PassToldParts.{receiver_told, argument_told}
 
 abbrev pub refers_of : rules.Aliases → Node → Option Referring
 refers_of aliases (node id at ty by form) = rules.refers_by aliases form

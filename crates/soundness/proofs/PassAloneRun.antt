@@ -39,13 +39,14 @@ use Rattle.soundness_cells.proofs.PassCells.{NodeIn}
 use Rattle.soundness_cells.proofs.PassFacts.{Standpoint, context}
 use Rattle.soundness_frame.proofs.PassFrameActs.{is_plain, AnsweredSo, KeepingSo}
 use Rattle.soundness_frame.proofs.PassFrameBodies.{any_place, body_kept_by}
-use Rattle.soundness_frame.proofs.PassFrameForms as frames
+use Rattle.soundness_frame.proofs.PassFrameHeads as pass_frame_heads
+use Rattle.soundness_frame.proofs.PassFrameOperands as pass_frame_operands
 use Rattle.soundness_cells.proofs.PassMarks.{StandFor, marked, chosen_marked}
 use Rattle.soundness.proofs.PassNamingKept as kept
 use Rattle.soundness_cells.proofs.PassRefilled.{not_mark, unmarked}
 use Rattle.soundness_cells.proofs.PassRestSplit.{test_calls, drop_calls, give_calls}
 use Rattle.soundness_frame.proofs.PassTold.{KnownOf, Here, Told, ids}
-use Rattle.soundness_frame.proofs.PassToldForms.{Saying}
+use Rattle.soundness_frame.proofs.PassToldBelow.{Saying}
 
 pub none_own : (more own others places apart : Bool) → alone_mark more own others places apart ≡ None → (more && own)
     ≡ true
@@ -248,7 +249,7 @@ module _ (p : ProgramTree) (b : BodyTree) where
     told = t;
   }
 
-  pub telling : (also : Also) → frames.Telling p.items (Does_ p.items b also) (Drops p.items b also) Stands
+  pub telling : (also : Also) → pass_frame_heads.Telling p.items (Does_ p.items b also) (Drops p.items b also) Stands
   telling also = record {
     borrows = λ places loops id unique base s. (
       node id s.at s.ty s.by (tree.Borrow unique base),
@@ -261,7 +262,7 @@ module _ (p : ProgramTree) (sound : IsSound p) where
   -- what is asked of each node that calls, once its arguments are made
   abbrev pub CallsAsked : Type 0
   CallsAsked = (n fuel : ℕ) (b : BodyTree) → slice_get p.bodies n ≡ Some b →
-      frames.AtCalls p.items (run p.items b (alone.also p sound n)) (not_mark 8)
+      pass_frame_operands.AtCalls p.items (run p.items b (alone.also p sound n)) (not_mark 8)
       (Does_ p.items b (alone.also p sound n)) (Drops p.items b (alone.also p sound n)) any_place any_place any_place
       (I p.items b (alone.also p sound n)) (keeps p.items b (alone.also p sound n)) (Stands p b) fuel
 

@@ -13,7 +13,7 @@ use Rattle.soundness.proofs.PassAloneLeft.{CallLeft, block_rises, alone_by_left}
 use Rattle.soundness.proofs.PassAloneRun.{Stands}
 use Rattle.soundness.proofs.PassCallsAlone.{AloneHolds}
 use Rattle.soundness_cells.proofs.PassCells.{NodeIn}
-use Rattle.soundness_frame.proofs.PassFrameForms.{Calls}
+use Rattle.soundness_frame.proofs.PassFrameHeads.{Calls}
 
 -- a number above those of some nodes
 abbrev top : List Node → ℕ

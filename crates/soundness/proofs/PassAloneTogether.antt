@@ -1,5 +1,5 @@
 -- What the arguments of a call name lies apart: each from those behind it, where nothing conflicts among them.
-use Rattle.std.proofs.Common.{◌≡◌, inl, inr, ℕ, ◌<◌, ◌||◌, not, Bool, true, false, List, [], ◌∷◌, ◌++◌, Option, Some, if◌then◌else◌, refl, ap, sym, subst, arith}
+use Rattle.std.proofs.Common.{◌≡◌, inr, ℕ, ◌<◌, ◌||◌, not, Bool, true, false, List, [], ◌∷◌, ◌++◌, Option, if◌then◌else◌, refl, ap, subst, arith}
 use Rattle.std.specs.Cmp.Derive.{both_true}
 use Rattle.std.proofs.lemmas.Bool.{false≢true}
 use Rattle.mir_base.specs.declared.place_in_text.Pos.{Pos}
@@ -29,13 +29,13 @@ use Rattle.soundness.proofs.PassAloneKeys.{other_keys, below_later, other_place}
 use Rattle.soundness.proofs.PassAlonePairs.{NoAlias, Without, Placed, placed, pair_apart}
 use Rattle.soundness.proofs.PassAlonePassed.{Argued, AllTold}
 use Rattle.soundness_frame.proofs.PassArgsLeft.{named_of}
-use Rattle.soundness_cells.proofs.PassCells.{Above, NodeIn, node_left, node_right, above_in}
+use Rattle.soundness_cells.proofs.PassCells.{NodeIn, node_left, node_right, above_in}
 use Rattle.soundness_frame.proofs.PassConflicts.{EachArgument, Apart, first_apart, rest_apart}
 use Rattle.soundness_cells.proofs.PassFacts.{Standpoint, context}
 use Rattle.soundness_cells.proofs.PassRest.{own_local}
 use Rattle.soundness_frame.proofs.PassTold as here
 use Rattle.soundness_frame.proofs.PassTold.{KnownOf, Here, Told}
-use Rattle.soundness_frame.proofs.PassToldForms.{node_above}
+use Rattle.soundness_frame.proofs.PassToldBelow.{node_above}
 use Rattle.soundness_frame.proofs.PassToldPlaces.{Rises}
 
 module _ (items : ItemTable) (May : Place → Type 0) (Of : KnownOf) (aliases : rules.Aliases) (places : shapes.Aliases)

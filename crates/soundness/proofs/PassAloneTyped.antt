@@ -1,5 +1,5 @@
 -- The parameters of a node that calls, and that its arguments are well typed for them.
-use Rattle.std.proofs.Common.{◌≡◌, ℕ, false, List, [], ◌∷◌, Some, None, refl, ap, ◌∙◌}
+use Rattle.std.proofs.Common.{◌≡◌, ℕ, List, [], ◌∷◌, Some, None, refl, ap, ◌∙◌}
 use Rattle.std.specs.Prelude.{slice_get, option_and_then}
 use Rattle.std.specs.Option.{option_map_or}
 use Rattle.std.proofs.lemmas.Bool.{false≢true}
@@ -18,7 +18,7 @@ use Rattle.soundness_values.proofs.CheckedBodies.{is_reference_param}
 use Rattle.soundness_values.proofs.Checks.{head_of}
 use Rattle.soundness.proofs.PassAloneArgs.{ParamsOf}
 use Rattle.soundness_cells.proofs.PassFacts.{Standpoint, context}
-use Rattle.soundness_frame.proofs.PassFrameForms.{Calls, a_call, a_method, a_virtual, a_closure}
+use Rattle.soundness_frame.proofs.PassFrameHeads.{Calls, a_call, a_method, a_virtual, a_closure}
 use Rattle.soundness_values.proofs.PlaceTypes.{some_holds}
 
 module _ (items : ItemTable) (body : BodyTree) where

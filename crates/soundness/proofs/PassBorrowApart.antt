@@ -3,40 +3,33 @@
 -- way to it; for names in scope have lower numbers than the nodes behind, and the nodes inside higher ones. What is
 -- passed
 -- to a call stands in no parameter that is a reference, and no box is freed alone.
-use Rattle.std.proofs.Common.{◌≡◌, ◌⊎◌, inl, inr, ℕ, ◌<◌, ◌+◌, ◌==◌, ◌&&◌, ◌||◌, not, Bool, true, false, List, [], ◌∷◌, ◌++◌, map, Option, Some, None, if◌then◌else◌, refl, ap, sym, ◌∙◌, subst, arith}
+use Rattle.std.proofs.Common.{◌≡◌, inl, ℕ, ◌<◌, ◌+◌, ◌==◌, ◌&&◌, ◌||◌, not, Bool, true, false, List, [], ◌∷◌, ◌++◌, map, Option, Some, None, refl, ap, sym, subst, arith}
 use Rattle.std.specs.Prelude.{slice_get}
 use Rattle.std.specs.Cmp.Derive.{both_true}
 use Rattle.std.specs.List.{list_all}
 use Rattle.std.proofs.lemmas.Bool.{false≢true}
 use Rattle.std.proofs.lemmas.Bool.Decides.{Decides-eqb}
-use Rattle.mir_base.specs.declared.place_in_text.Pos.{Pos}
 use Rattle.mir_ty.specs.declared.def.Sig.{Sig}
-use Rattle.mir_ty.specs.declared.ty.TyId.{TyId}
 use Rattle.mir_ty.specs.ItemTable.{ItemTable}
 use Rattle.store_model.specs.Abstract.Effects as free
 use Rattle.store_model.specs.Abstract.Effects.{AbstractState, abstract_effects, acted_on, never_at}
 use Rattle.store_model.specs.Effects as effects
-use Rattle.store_model.specs.Effects.{EffectSite, Operand, Action, Test, Mode, Halt, StuckAt, Infeasible, NoChoice, Unreachable, Out, Go, Unwind, Halts, Choice, Yes, No, Neither, Effects, halting_if, stores_where}
-use Rattle.store_model.specs.Places.Place.{Step, ToPart, ToField, ToContent, ToElement, Place}
-use Rattle.typed_tree.specs.declared.node.Use.{Use}
+use Rattle.store_model.specs.Effects.{EffectSite, Operand, Action, StuckAt, Infeasible, Unreachable, Out, Go, Unwind, Halts, Choice, Yes, No, Neither, Effects, halting_if, stores_where}
+use Rattle.store_model.specs.Places.Place.{Step, ToPart, ToField, ToContent, ToElement}
 use Rattle.typed_tree.specs.Nodes.{number_of, nodes_of, nodes_in, nodes_among, param_nodes}
 use Rattle.typed_tree.specs.Tree as tree
 use Rattle.typed_tree.specs.Tree.{Node, node, Form, Nodes, no_node, a_node, BodyTree, ProgramTree}
-use Rattle.src_meaning.specs.Forms.{site_in}
 use Rattle.src_meaning.specs.Locals.Effects.{at_locals, action_at, test_at, site_at, place_at, step_at, operand_at}
 use Rattle.src_meaning.specs.Locals.OfBody.{local_ty, local_of, local_keys}
 use Rattle.src_meaning.specs.Programs.{activation}
 use Rattle.src_meaning.specs.Shape as shapes
 use Rattle.src_meaning.specs.Shape.{shape}
-use Rattle.typing_rules.specs.Accesses as rules
-use Rattle.typing_rules.specs.Accesses.{told_form}
 use Rattle.well_typed.specs.Claim.{Holds}
-use Rattle.well_typed.specs.Nodes as typing
-use Rattle.well_typed.specs.Places.{InScope, entry_with, Used, borrow_by}
+use Rattle.well_typed.specs.Places.{InScope, Used, borrow_by}
 use Rattle.well_typed.specs.Program.{is_body}
 use Rattle.soundness_values.specs.Laws.{IsSound}
 use Rattle.soundness_values.proofs.AlsoTests.{Also, checks_also}
-use Rattle.soundness_values.proofs.Checked.{Checking, Checks, with_facts, chosen_with}
+use Rattle.soundness_values.proofs.Checked.{Checking, with_facts, chosen_with}
 use Rattle.soundness_values.proofs.CheckedBodies.{checks_of, is_reference_param}
 use Rattle.soundness_values.proofs.Facts.{Facts, takes_index}
 use Rattle.soundness_values.proofs.Leaving.{ShownOut}
@@ -44,11 +37,10 @@ use Rattle.soundness_frame.proofs.PassWithin.{Outer}
 use Rattle.soundness_frame.proofs.PassBlockTold.{in_block, block_within}
 use Rattle.soundness_cells.proofs.PassCellEffects.{Quiet, acted_quiet, ChosenSo, test_quiet, drop_quiet}
 use Rattle.soundness_cells.proofs.PassCells.{Above, NodeIn, node_left, node_right, above_in, rising}
-use Rattle.soundness_cells.proofs.PassFacts.{Standpoint, context}
 use Rattle.soundness_cells.proofs.PassFirst.{body_at}
 use Rattle.soundness_frame.proofs.PassFrameActs.{is_plain, AnsweredSo, KeepingSo}
 use Rattle.soundness_frame.proofs.PassFrameBodies.{any_place, body_kept}
-use Rattle.soundness_frame.proofs.PassFrameForms.{Telling, TellingCalls, moved_nodes}
+use Rattle.soundness_frame.proofs.PassFrameHeads.{Telling, TellingCalls, moved_nodes}
 use Rattle.soundness_frame.proofs.PassKeys.{Keys, KeysIn, keys_more, place_keys}
 use Rattle.soundness_cells.proofs.PassLocals.{one_key}
 use Rattle.soundness_cells.proofs.PassMarks.{Marks, marked, chosen_marked, marked_effects}
@@ -56,8 +48,8 @@ use Rattle.soundness_cells.proofs.PassNumbers.{Numbered, Rises}
 use Rattle.soundness_frame.proofs.PassPastParams.{no_param}
 use Rattle.soundness.proofs.PassProtectEnds.{numbered_in}
 use Rattle.soundness_cells.proofs.PassRefilled.{not_mark, NotMark, unmarked}
-use Rattle.soundness_frame.proofs.PassTold.{KnownOf, Here, Told}
-use Rattle.soundness_frame.proofs.PassToldForms.{Saying}
+use Rattle.soundness_frame.proofs.PassTold.{KnownOf}
+use Rattle.soundness_frame.proofs.PassToldBelow.{Saying}
 use Rattle.soundness_frame.proofs.PassToldPlaces.{is_alias}
 
 -- ---- the test, and its marks: 7 where it fails, 2 where another does

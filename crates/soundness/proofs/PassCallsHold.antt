@@ -1,6 +1,6 @@
 -- The half on calls holds: no run of a body of a sound program fails by a call, by a borrow, or by a test of protected
 -- parameters, while all else holds. Of each call is shown what it asks, where the calls behind it are in order.
-use Rattle.std.proofs.Common.{◌≡◌, inl, inr, ℕ, ◌+◌, ◌<◌, ◌≤◌, List, [], ◌∷◌, ◌++◌, Some, refl, ap, sym, subst, arith}
+use Rattle.std.proofs.Common.{◌≡◌, inl, inr, ℕ, ◌+◌, ◌<◌, ◌≤◌, List, ◌++◌, Some, refl, ap, subst, arith}
 use Rattle.std.specs.Prelude.{slice_get}
 use Rattle.store_model.specs.Effects.{EffectSite, Operand, Action}
 use Rattle.typed_tree.specs.Nodes.{number_of, nodes_of, nodes_in, nodes_among, param_nodes}
@@ -19,7 +19,7 @@ use Rattle.soundness.proofs.PassCallsAlone as alone
 use Rattle.soundness.proofs.PassCallsAlone.{calls_by_alone}
 use Rattle.soundness_cells.proofs.PassCells.{Above, NodeIn, above_in, rising}
 use Rattle.soundness_cells.proofs.PassFirst.{body_at}
-use Rattle.soundness_frame.proofs.PassFrameForms.{Calls}
+use Rattle.soundness_frame.proofs.PassFrameHeads.{Calls}
 use Rattle.soundness_cells.proofs.PassRestSplit.{CallsHold}
 use Rattle.soundness_frame.proofs.PassToldPlaces.{Rises}
 use Rattle.soundness_frame.proofs.PassWithin.{Outer, passing, KeysAround}

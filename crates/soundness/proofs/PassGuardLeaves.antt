@@ -19,7 +19,7 @@ use Rattle.src_meaning.specs.Scopes.{Scopes}
 use Rattle.src_meaning.specs.Shape as shapes
 use Rattle.src_meaning.specs.Shape.{shape}
 use Rattle.typing_rules.specs.Accesses as rules
-use Rattle.typing_rules.specs.Accesses.{AccessPlace, Accessed, CollectedAccesses, ◌⊕◌, told, told_arms, told_arm, told_guard, place_of, bound, changes, replaces, begin_alike, against_guard, conflicting, accesses_of}
+use Rattle.typing_rules.specs.Accesses.{AccessPlace, Accessed, CollectedAccesses, told, told_guard, bound, changes, replaces, begin_alike, against_guard, conflicting}
 use Rattle.well_typed.specs.Claim.{Holds}
 use Rattle.well_typed.specs.Nodes as typing
 use Rattle.well_typed.specs.Patterns.{entries_of}
@@ -49,8 +49,8 @@ use Rattle.soundness.proofs.PassPlacesCalm.{watching}
 use Rattle.soundness_frame.proofs.PassPlacesApart.{locals_differ, begin_apart}
 use Rattle.soundness_frame.proofs.PassStays.{FactsStay, stay_same}
 use Rattle.soundness_frame.proofs.PassTold as here
-use Rattle.soundness_frame.proofs.PassTold.{ids, Here, IfRoot, Told, RootIf, StandsFor, place_stands}
-use Rattle.soundness_frame.proofs.PassToldForms.{node_above}
+use Rattle.soundness_frame.proofs.PassTold.{ids, Here, IfRoot, Told, RootIf, StandsFor}
+use Rattle.soundness_frame.proofs.PassToldBelow.{node_above}
 use Rattle.soundness_frame.proofs.PassToldParts as told_parts
 use Rattle.soundness_frame.proofs.PassToldParts.{NotAgainst}
 use Rattle.soundness_frame.proofs.PassToldPlaces.{AllOwned, MaySeen}

@@ -12,7 +12,7 @@ use Rattle.src_meaning.specs.Forms as forms
 use Rattle.src_meaning.specs.Forms.{Into, LoopsAndGuards}
 use Rattle.src_meaning.specs.Shape.{Aliases, place_of_key, BoundName, extended, shape}
 use Rattle.typing_rules.specs.Accesses as rules
-use Rattle.typing_rules.specs.Accesses.{AccessPlace, Accessed, CollectedAccesses, told, told_guard, bound, conflicting, against_guard}
+use Rattle.typing_rules.specs.Accesses.{AccessPlace, told, told_guard, bound, conflicting, against_guard}
 use Rattle.std.specs.List.{filter_map}
 use Rattle.well_typed.specs.Patterns.{entries_of}
 use Rattle.well_typed.specs.Places.{InScope, Taken, entry_with, in_guard}
@@ -46,7 +46,7 @@ use Rattle.soundness_cells.proofs.PassRefilled.{not_mark}
 use Rattle.soundness_frame.proofs.PassTold as here
 use Rattle.soundness_frame.proofs.PassTold.{Here}
 use Rattle.soundness_frame.proofs.PassToldAliases.{alias_with}
-use Rattle.soundness_frame.proofs.PassToldForms.{node_above}
+use Rattle.soundness_frame.proofs.PassToldBelow.{node_above}
 use Rattle.soundness_frame.proofs.PassToldParts as told_parts
 use Rattle.soundness_frame.proofs.PassToldPatterns.{bound_named, bound_name}
 use Rattle.soundness_frame.proofs.PassToldPlaces.{found_in, marked, still_there, name_entry, is_alias}

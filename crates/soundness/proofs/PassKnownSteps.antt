@@ -4,7 +4,7 @@ use Rattle.std.proofs.Common.{◌≡◌, ◌⊎◌, inl, inr, ℕ, ◌==◌, ◌
 use Rattle.std.specs.Prelude.{option_and_then}
 use Rattle.std.specs.Cmp.Derive.{both_true}
 use Rattle.std.proofs.lemmas.Bool.{false≢true}
-use Rattle.std.proofs.lemmas.Option.{none-some, same_Some}
+use Rattle.std.proofs.lemmas.Option.{none-some}
 use Rattle.mir_ty.specs.declared.ty.Ty.{Ty}
 use Rattle.mir_ty.specs.declared.ty.TyId.{TyId}
 use Rattle.mir_ty.specs.ItemTable.{ItemTable, type_at}
@@ -22,16 +22,7 @@ named_content : (items : ItemTable) (o : Option Ty) (to : TyId) → named_by o �
 named_content items None to e = absurd (none-some to e)
 named_content items (Some (Ty.Shared t)) to e = e
 named_content items (Some (Ty.Unique t)) to e = e
-named_content items (Some (Ty.Int kind)) to e = absurd (none-some to e)
-named_content items (Some Ty.Bool) to e = absurd (none-some to e)
-named_content items (Some Ty.Unit) to e = absurd (none-some to e)
-named_content items (Some Ty.Never) to e = absurd (none-some to e)
-named_content items (Some (Ty.Tuple parts)) to e = absurd (none-some to e)
-named_content items (Some (Ty.Array t n)) to e = absurd (none-some to e)
-named_content items (Some (Ty.Adt n)) to e = absurd (none-some to e)
-named_content items (Some (Ty.Boxed t)) to e = absurd (none-some to e)
-named_content items (Some (Ty.Dyn n)) to e = absurd (none-some to e)
-named_content items (Some (Ty.Closure n)) to e = absurd (none-some to e)
+named_content items (Some other) to e = absurd (none-some to e)
 
 module _ (items : ItemTable) (is_bounded : ℕ → ℕ → Bool) (is_variant : List Step → ℕ → Bool) where
   left_of : (a b : Bool) → (a && b) ≡ true → a ≡ true

@@ -1,40 +1,32 @@
 -- A node of type `!` has no value, and no loop of type `!` is left by `break`: in runs that mark what is left, since
 -- what would store a value of that type does not go on. One line a form.
-use Rattle.std.proofs.Common.{◌≡◌, inl, ℕ, ◌==◌, ◌&&◌, ◌||◌, not, Bool, true, false, List, [], ◌∷◌, ◌++◌, length, Option, Some, None, slice_get, if◌then◌else◌, refl, ap, sym, ◌∙◌, subst}
-use Rattle.std.specs.Prelude.{option_and_then}
+use Rattle.std.proofs.Common.{◌≡◌, ℕ, ◌==◌, ◌&&◌, not, Bool, true, false, List, [], ◌∷◌, ◌++◌, length, Option, Some, slice_get, if◌then◌else◌, refl, sym, ◌∙◌, subst}
 use Rattle.std.specs.List.{list_all}
-use Rattle.std.specs.Option.{option_map_or}
 use Rattle.std.proofs.lemmas.Bool.{false≢true}
 use Rattle.std.proofs.lemmas.Option.{none-some}
 use Rattle.mir_base.specs.declared.place_in_text.Pos.{Pos}
-use Rattle.mir_ty.specs.declared.ty.Ty.{Ty}
 use Rattle.mir_ty.specs.declared.ty.TyId.{TyId}
 use Rattle.mir_ty.specs.ItemTable.{ItemTable, type_at}
-use Rattle.store_model.proofs.Effects.NeverStores.{free_runs_store_no_never}
-use Rattle.store_model.specs.Abstract.Effects.{AbstractState, never_at}
 use Rattle.store_model.specs.Effects as effects
-use Rattle.store_model.specs.Effects.{EffectSite, Action, OfTuple, OfArray, OfVariant, OfClosure, Out, Go, Unwind, Halts, Effects, stores_where, DoesNotGoOn}
-use Rattle.store_model.specs.Places.Place.{Place, whole_local, place_ty}
-use Rattle.store_model.specs.Places.TypeForms.{is_never as is_never_ty}
+use Rattle.store_model.specs.Effects.{OfTuple, OfArray, OfVariant, OfClosure, Effects}
+use Rattle.store_model.specs.Places.Place.{Place, whole_local}
 use Rattle.typed_tree.specs.declared.node.Use.{Use}
 use Rattle.typed_tree.specs.Tree as tree
 use Rattle.typed_tree.specs.Tree.{Node, node, Form, Nodes, no_node, a_node, Fields, no_field, a_field, MaybeNode, absent, present, BodyTree}
-use Rattle.src_meaning.specs.Evaluation as evaluation
 use Rattle.src_meaning.specs.Evaluation.{meaning, meanings, fields_of, meaning_if_any, values_of, in_number_order, to_own_key}
 use Rattle.src_meaning.specs.Forms as forms
-use Rattle.src_meaning.specs.Forms.{Destination, Into, Coerced, coerced, LoopsAndGuards, Meaning, in_loop, loop_destination, moved, all_moved, is_never, place_of, site_in, site_of}
-use Rattle.src_meaning.specs.Locals.Effects.{action_at}
-use Rattle.src_meaning.specs.Locals.OfBody.{cells, reached_cells, cells_in, all_cells, cells_of_fields, cells_if_any, local_of, local_ty}
-use Rattle.src_meaning.specs.Scopes.{Entry, Value, Breaks, Continues, Returns, Scopes, Run, At, Does, ◌>>◌, on_value}
-use Rattle.src_meaning.specs.Shape.{NodeHead, head, Shape, shape_of, kind_of, operand_at}
-use Rattle.well_typed.specs.Claim.{Claim, Holds, fact, both, nothing}
+use Rattle.src_meaning.specs.Forms.{Destination, Into, coerced, LoopsAndGuards, Meaning, in_loop, loop_destination, moved, all_moved, is_never, site_of}
+use Rattle.src_meaning.specs.Locals.OfBody.{cells, reached_cells, cells_in, all_cells, cells_of_fields, cells_if_any}
+use Rattle.src_meaning.specs.Scopes.{Entry, Breaks, Returns, Scopes, At, Does}
+use Rattle.src_meaning.specs.Shape.{NodeHead, head, shape_of, kind_of}
+use Rattle.well_typed.specs.Claim.{Claim, Holds, fact, both}
 use Rattle.well_typed.specs.Names.{are_distinct_numbers}
 use Rattle.well_typed.specs.Nodes as typing
 use Rattle.well_typed.specs.Patterns as patterns
-use Rattle.well_typed.specs.Places.{LoopAround, Context, loop_with, in_guard, ty_of, form_of, is_place, borrow_by, Standing, Taken, Wanted, Passed, Base, Used, Stored}
+use Rattle.well_typed.specs.Places.{LoopAround, Context, loop_with, in_guard, ty_of, is_place, borrow_by, Standing, Taken, Wanted, Passed, Base, Used, Stored}
 use Rattle.well_typed.specs.Types as types
 use Rattle.soundness_values.proofs.AlsoTests.{Also}
-use Rattle.soundness_values.proofs.Checked.{Checking, with_facts}
+use Rattle.soundness_values.proofs.Checked.{Checking}
 use Rattle.soundness_values.proofs.Facts.{Facts}
 use Rattle.soundness_cells.proofs.PassCellActs.{Cell}
 use Rattle.soundness_cells.proofs.PassCellParts as at_nodes
@@ -44,23 +36,12 @@ use Rattle.soundness_cells.proofs.PassCellStands as stand
 use Rattle.soundness_cells.proofs.PassCellTypes as facts_of
 use Rattle.soundness_cells.proofs.PassFacts.{Standpoint, context, with_names, in_a_loop, behind}
 use Rattle.soundness.proofs.PassMadeRules as rules
-use Rattle.soundness_cells.proofs.PassMarks.{marked}
 use Rattle.soundness.proofs.PassPlacesEffects.{q}
 use Rattle.soundness.proofs.PassPlacesMeant as meant
 use Rattle.soundness.proofs.PassPlacesRules.{NoValue}
 use Rattle.soundness_values.proofs.PlaceTypes.{some_holds, same_type}
-
--- ---- types that are made
-
-made_by : {A : Type 0} (f : Ty → Option A) → f Ty.Never ≡ None → (o : Option Ty) (a : A) → option_and_then f o ≡ Some
-    a → is_never_ty o ≡ false
-made_by f n None a e = absurd (none-some a e)
-made_by f n (Some Ty.Never) a e = absurd (none-some a (sym n ∙ e))
-made_by f n (Some ty) a e = refl
-
-found_by : {A : Type 0} (test : A → Bool) (o : Option A) → option_map_or test o false ≡ true → (a : A) × (o ≡ Some a)
-found_by test None e = absurd (false≢true e)
-found_by test (Some a) e = (a, refl)
+use Rattle.soundness.proofs.PassMadeKinds as pass_made_kinds
+use Rattle.soundness.proofs.PassMadeKinds.{made_by, found_by, sure, less, one_of, more_of, effect_so, operands_so, gives_unit_so, used_so, called_so, virtual_so, passed_so, fits_so, common_first, same_loops, parted_ends, named_ends, common_second, unit_if_so, ends_so, declared_so, same_meaning}
 
 module _ (items : ItemTable) (body : BodyTree) (also : Also) (told : Told items) (fuel : ℕ) where
   abbrev V : Type 0
@@ -105,213 +86,14 @@ module _ (items : ItemTable) (body : BodyTree) (also : Also) (told : Told items)
   abbrev Mades : TyId → Type 0
   Mades ty = is_never items ty ≡ false
 
-  -- a node that is evaluated, and one that is reached
   abbrev Es : List LoopAround → TyId → Meaning V → Type 0
-  Es loops ty m = (around : LoopsAndGuards) (own : Bool) (to : Destination) →
-      Makes loops (Mades ty) (m.evaluate around own to)
+  Es = pass_made_kinds.Es items body also told fuel
 
   abbrev Rs : List LoopAround → Node → Type 0
-  Rs loops n = (around : LoopsAndGuards) → Makes loops (is_place (form_of n) ≡ false → Mades (ty_of n)) ((N n).reach
-      around)
+  Rs = pass_made_kinds.Rs items body also told fuel
 
   abbrev AllE : List LoopAround → List (Meaning V) → Type 0
   AllE loops ms = (around : LoopsAndGuards) → rules.AllMake items r loops around ms
-
-  -- ---- by kinds
-
-  sure : (loops : List LoopAround) (ty : TyId) (does : Does V) → Mades ty → Makes loops None_ does →
-      Makes loops (Mades ty) does
-  sure loops ty does made k S v = rules.as_so items r loops None_ (Mades ty) (does S v) (λ u. made) (k S v)
-
-  less : (loops : List LoopAround) (a : Type 0) (does : Does V) → Makes loops a does → Makes loops None_ does
-  less loops a does k S v = rules.as_so items r loops a None_ (does S v) (λ u. tt) (k S v)
-
-  one_of : (loops : List LoopAround) (ty : TyId) (m : Meaning V) → Es loops ty m → AllE loops (m ∷ [])
-  one_of loops ty m e around =
-      (less loops (Mades ty) (m.evaluate around false (Into m.head.id)) (e around false (Into m.head.id)), tt)
-
-  more_of : (loops : List LoopAround) (ty : TyId) (m : Meaning V) (ms : List (Meaning V)) → Es loops ty m → AllE loops
-      ms → AllE loops (m ∷ ms)
-  more_of loops ty m ms e l around = (
-    less loops (Mades ty) (m.evaluate around false (Into m.head.id)) (e around false (Into m.head.id)),
-    l around,
-  )
-
-  effect_so : (loops : List LoopAround) (h : NodeHead) (s : Shape) (action : EffectSite → Action) → Mades h.ty →
-      Es loops h.ty (evaluation.effect items r fuel h s action)
-  effect_so loops h s action made around own to = sure loops h.ty _ made
-      (rules.own_so items r loops None_ h own _ (rules.deliver_so items r loops h action (to_own_key (is_never items
-      h.ty) h.id to)))
-
-  operands_so : (loops : List LoopAround) (h : NodeHead) (s : Shape) (ms : List (Meaning V)) (action : EffectSite →
-      Action) → AllE loops ms → Mades h.ty → Es loops h.ty (evaluation.on_operands items r fuel h s ms action)
-  operands_so loops h s ms action e made around own to = sure loops h.ty _ made
-      (rules.acting_so items r loops None_ h around own ms _ (e around)
-      (rules.deliver_so items r loops h action (to_own_key (is_never items h.ty) h.id to)))
-
-  gives_unit_so : (loops : List LoopAround) (h : NodeHead) (s : Shape) (m : Meaning V)
-      (action : Rattle.store_model.specs.Effects.Operand → Action) → AllE loops (m ∷ []) → Mades h.ty →
-      Es loops h.ty (evaluation.gives_unit items r fuel h s m action)
-  gives_unit_so loops h s m action e made around own to = sure loops h.ty _ made
-      (rules.acting_so items r loops None_ h around own (m ∷ []) _ (e around)
-      (rules.both_so items r loops None_ None_ _ _ (rules.acts_so items r loops (action (moved h.id m.head.id)))
-      (λ u. rules.unit_so items r loops h (to_own_key (is_never items h.ty) h.id to))))
-
-  -- ---- what goes on
-
-  marked_not : (mark : Option ℕ) (v : V) (went unwound : Facts) (o : Out AbstractState) → DoesNotGoOn o →
-      DoesNotGoOn (marked mark v (with_facts went unwound o))
-  marked_not None v went unwound (Go w) d = absurd d
-  marked_not None v went unwound (Unwind w) d = tt
-  marked_not None v went unwound (Halts halt w) d = tt
-  marked_not (Some m) v went unwound o d = tt
-
-  never_goes : (action : Action) (v : V) →
-      stores_where (never_at items (local_ty items body)) (action_at (local_of items body) action) ≡ true →
-      DoesNotGoOn (r.act action v)
-  never_goes action v e = marked_not _ v _ _ _
-      (free_runs_store_no_never items (local_ty items body) (action_at (local_of items body) action) v.free e)
-
-  never_there : (at_node id : ℕ) (ty : TyId) → Cell items body id ty → is_never items ty ≡ true →
-      never_at items (local_ty items body) (record { node = at_node; place = whole_local (local_of items body id) }) ≡
-      true
-  never_there at_node id ty c n = subst (λ o. is_never_ty (option_and_then (type_at items)
-      (option_and_then (Rattle.store_model.specs.Places.Place.ty_along items []) o)) ≡ true) (sym c) n
-
-  delivered_so : (loops : List LoopAround) (h : NodeHead) (action : EffectSite → Action) (to : Destination) (b : Bool) →
-      (b ≡ true → (v : V) → DoesNotGoOn (r.act (action (site_in h.id h.id)) v)) →
-      Makes loops (b ≡ false) (forms.deliver items r h action (to_own_key b h.id to))
-  delivered_so loops h action to false n S v = rules.as_so items r loops None_ (false ≡ false) _ (λ u. refl)
-      (rules.deliver_so items r loops h action to S v)
-  delivered_so loops h action to true n S v =
-      rules.stops_so items r loops (true ≡ false) (action (site_in h.id h.id)) (n refl) S v
-
-  -- the use of a place, and a call, where its type is `!`
-  used_so : (loops : List LoopAround) (form : Form) (id : ℕ) (ty : TyId) (by : Option Use) (reach_ : LoopsAndGuards →
-      Does V) → ((around : LoopsAndGuards) → Makes loops None_ (reach_ around)) → (is_never items ty ≡ true → Cell
-      items body id ty) → Es loops ty (evaluation.a_place items r fuel (head id ty by) (shape_of items form (head id
-      ty by)) reach_)
-  used_so loops form id ty by reach_ k c around own to = rules.own_so items r loops (Mades ty) (head id ty by) own _
-      (rules.both_so items r loops None_ (Mades ty) (reach_ around) _ (k around)
-      (λ u. delivered_so loops (head id ty by)
-      (λ site. effects.Put site (operand_at (head id ty by) ((shape_of items form (head id ty by)).place
-      around.aliases))) to (is_never items ty) (λ n v. never_goes (effects.Put (site_in id id) (operand_at (head id ty
-      by) ((shape_of items form (head id ty by)).place around.aliases))) v (never_there id id ty (c n) n))))
-
-  called_so : (loops : List LoopAround) (id : ℕ) (ty : TyId) (by : Option Use) (s : Shape) (ms : List (Meaning V))
-      (callee : ℕ) → AllE loops ms → (is_never items ty ≡ true → Cell items body id ty) →
-      Es loops ty (evaluation.on_all items r fuel (head id ty by) s ms (λ site. effects.Call site callee))
-  called_so loops id ty by s ms callee e c around own to = rules.acting_so items r loops (Mades ty) (head id ty by)
-      around own ms _ (e around) (delivered_so loops (head id ty by) (λ site. effects.Call site callee (all_moved id
-      ms)) to (is_never items ty) (λ n v. never_goes (effects.Call (site_in id id) callee (all_moved id ms)) v
-      (never_there id id ty (c n) n)))
-
-  virtual_so : (loops : List LoopAround) (id : ℕ) (ty : TyId) (by : Option Use) (s : Shape) (ms : List (Meaning V))
-      (trait_no method : ℕ) → AllE loops ms → (is_never items ty ≡ true → Cell items body id ty) →
-      Es loops ty (evaluation.on_all items r fuel (head id ty by) s ms (λ site. effects.CallVirtual site trait_no
-      method))
-  virtual_so loops id ty by s ms trait_no method e c around own to = rules.acting_so items r loops (Mades ty) (head id
-      ty by) around own ms _ (e around) (delivered_so loops (head id ty by)
-      (λ site. effects.CallVirtual site trait_no method (all_moved id ms)) to
-      (is_never items ty) (λ n v. never_goes (effects.CallVirtual (site_in id id) trait_no method (all_moved id ms)) v
-      (never_there id id ty (c n) n)))
-
-  passed_so : (loops : List LoopAround) (tys : List TyId) (first : Node) (rest : Nodes) (x : Standpoint) →
-      Holds (typing.first_and_rest (λ t. typing.typed (K x) (Passed t) first) (λ ts. typing.arguments (K x) ts rest)
-      tys) → ((t : TyId) → Holds (typing.typed (K x) (Passed t) first) → Es loops (ty_of first) (N first)) →
-      ((ts : List TyId) → Holds (typing.arguments (K x) ts rest) → AllE loops (Ns rest)) → AllE loops (N first ∷ Ns
-      rest)
-  passed_so loops [] first rest x h f e = absurd (false≢true h)
-  passed_so loops (ty ∷ tys) first rest x h f e = more_of loops (ty_of first) (N first) (Ns rest) (f ty h.0) (e tys h.1)
-
-  -- a branch of a type that fits
-  fits_so : (loops : List LoopAround) (ty : TyId) (n : Node) (does : Does V) → types.fits items ty (ty_of n) ≡ true →
-      Makes loops (Mades (ty_of n)) does → Makes loops (Mades ty) does
-  fits_so loops ty n does f k S v = rules.as_so items r loops (Mades (ty_of n)) (Mades ty) (does S v)
-      (λ m. subst (λ t. is_never items t ≡ false) (facts_of.made_fits items ty (ty_of n) f m) m) (k S v)
-
-  common_first : (ty a : TyId) (rest : List TyId) → types.is_common items ty (a ∷ rest) ≡ true → types.fits items ty a
-      ≡ true
-  common_first ty a rest h = facts_of.left_of (types.fits items ty a) _
-      (facts_of.left_of (list_all (types.fits items ty) (a ∷ rest)) _ h)
-
-  same_loops : (ns : Nodes) (x : Standpoint) → (behind x ns).loops ≡ x.loops
-  same_loops no_node x = refl
-  same_loops (a_node (node id at ty by form) rest) x = same_loops rest (with_names (typing.entries_in form) x)
-
-  is_unused : (n : Node) (x : Standpoint) → Holds (typing.typed (K x) Base n) → is_place (form_of n) ≡ true →
-      typing.is_unused_place n ≡ true
-  is_unused (node id at ty by form) x h p = so (is_place form) (Rattle.std.proofs.Common.is_none by) p
-      (facts_of.left_of (Rattle.std.proofs.Common.is_none by) _ h.0)
-    where
-      so : (a b : Bool) → a ≡ true → b ≡ true → (a && b) ≡ true
-      so true b e f = f
-      so false b e f = absurd (false≢true e)
-
-  -- a place that is taken apart is not used, and what is no place is made
-  parted_ends : (n : Node) (x : Standpoint) → Holds (typing.typed (K x) Base n) →
-      (is_place (form_of n) ≡ false → Mades (ty_of n)) →
-      (types.is_never items (ty_of n) && not (typing.is_unused_place n)) ≡ false
-  parted_ends n x h made = by (is_place (form_of n)) refl
-    where
-      second : (a b : Bool) → b ≡ true → (a && not b) ≡ false
-      second true true e = refl
-      second true false e = absurd (false≢true e)
-      second false b e = refl
-
-      first : (a b : Bool) → a ≡ false → (a && b) ≡ false
-      first true b e = absurd (false≢true (sym e))
-      first false b e = refl
-
-      by : (b : Bool) → is_place (form_of n) ≡ b → (types.is_never items (ty_of n) && not (typing.is_unused_place n))
-          ≡ false
-      by true p = second (types.is_never items (ty_of n)) (typing.is_unused_place n) (is_unused n x h p)
-      by false p = first (types.is_never items (ty_of n)) _ (facts_of.never_same items (ty_of n) ∙ made p)
-
-  named_ends : (n : Node) → Mades (ty_of n) → (types.is_never items (ty_of n) && not (typing.is_unused_place n)) ≡ false
-  named_ends n made = first (types.is_never items (ty_of n)) _ (facts_of.never_same items (ty_of n) ∙ made)
-    where
-      first : (a b : Bool) → a ≡ false → (a && b) ≡ false
-      first true b e = absurd (false≢true (sym e))
-      first false b e = refl
-
-  common_second : (ty a b : TyId) → types.is_common items ty (a ∷ b ∷ []) ≡ true → types.fits items ty b ≡ true
-  common_second ty a b h = facts_of.left_of (types.fits items ty b) _ (facts_of.right_of (types.fits items ty a) _
-      (facts_of.left_of (list_all (types.fits items ty) (a ∷ b ∷ [])) _ h))
-
-  unit_if_so : (loops : List LoopAround) (b : Bool) (h : NodeHead) (to : Destination) →
-      Makes loops None_ (forms.put_unit_if items r b h to)
-  unit_if_so loops true h to = λ S v. tt
-  unit_if_so loops false h to = rules.unit_so items r loops h to
-
-  ends_so : (id : ℕ) (ty : TyId) (by : Option Use) (loops : List LoopAround) → Mades ty → (to : Destination) →
-      Makes (at_nodes.around_a items body told fuel id ty false ∷ loops) None_ (forms.ends_loop items r (head id ty
-      by) to)
-  ends_so id ty by loops made to = rules.both_so items r (at_nodes.around_a items body told fuel id ty false ∷ loops)
-      None_ None_ _ (At (Breaks id)) (rules.unit_so items r (at_nodes.around_a items body told fuel id ty false ∷ loops)
-      (head id ty by) to)
-      (λ u S v. (at_nodes.around_a items body told fuel id ty false, (itself, made)))
-    where
-      itself : loop_with id (at_nodes.around_a items body told fuel id ty false ∷ loops)
-          ≡ Some (at_nodes.around_a items body told fuel id ty false)
-      itself = ap (λ b. if b then Some (at_nodes.around_a items body told fuel id ty false) else loop_with id loops)
-          ((Rattle.std.proofs.lemmas.Bool.Decides.Decides-eqb id id).1 refl)
-
-  declared_so : (loops : List LoopAround) (bounds : List Rattle.src_meaning.specs.Shape.BoundName) →
-      Makes loops None_ (forms.declared items r bounds)
-  declared_so loops [] S v = tt
-  declared_so loops (b ∷ bounds) S v = rules.both_so items r loops None_ None_ _ _
-      (emptied_so (Rattle.mir_ty.specs.Facts.needs_drop items b.ty) b.key)
-      (λ u T w. declared_so loops bounds
-      (Rattle.src_meaning.specs.Scopes.innermost (Rattle.src_meaning.specs.Scopes.with_entry (forms.bound_entry b)) T)
-      w) S v
-    where
-      emptied_so : (c : Bool) (key : ℕ) → Makes loops None_ (forms.emptied items r c key)
-      emptied_so true key = λ S v. tt
-      emptied_so false key = λ S v. rules.acted_so items r loops S (r.drop effects.Normal (forms.site_of_key key) v)
-
-  same_meaning : (a b : Meaning V) → Some a ≡ Some b → a ≡ b
-  same_meaning a b e = Rattle.std.proofs.lemmas.Option.same_Some a b e
 
   -- ---- the forms
 
@@ -354,104 +136,104 @@ module _ (items : ItemTable) (body : BodyTree) (also : Also) (told : Told items)
     place_reached (tree.Variable key) x id ty by h p k around = λ S v. tt
     place_reached (tree.Captured closure part name) x id ty by h p k around = λ S v. tt
     place_reached (tree.Field base part) x id ty by h p k around =
-        less x.loops _ _ (node_reached base x Base h.0 k around)
+        less items body also told fuel x.loops _ _ (node_reached base x Base h.0 k around)
     place_reached (tree.Index base index count) x id ty by h p k around = rules.element_so items r x.loops (head id ty
         by) (shape_of items (tree.Index base index count) (head id ty by)) (N base) (N index) count around
-        (less x.loops _ _ (node_reached base x Base h.0 (left (reached_cells items base) (cells items true index) k)
-        around)) (less x.loops _ _ (own_so index x Taken h.1.0 (right (reached_cells items base) (cells items true
+        (less items body also told fuel x.loops _ _ (node_reached base x Base h.0 (left (reached_cells items base) (cells items true index) k)
+        around)) (less items body also told fuel x.loops _ _ (own_so index x Taken h.1.0 (right (reached_cells items base) (cells items true
         index) k) around false (Into (N index).head.id)))
-    place_reached (tree.Deref base) x id ty by h p k around = less x.loops _ _ (node_reached base x Base h.0 k around)
+    place_reached (tree.Deref base) x id ty by h p k around = less items body also told fuel x.loops _ _ (node_reached base x Base h.0 k around)
     place_reached form x id ty by h p k around = absurd (false≢true p)
 
     pub form_so : (form : Form) (x : Standpoint) (id : ℕ) (ty : TyId) (by : Option Use) →
         Holds (typing.row (K x) id ty form) → H (cells_in items form) →
         (is_never items ty ≡ true → made_of_never form ≡ true → Cell items body id ty) → Es x.loops ty (F form id ty by)
-    form_so (tree.Number value) x id ty by h k c around own to = effect_so x.loops (head id ty by)
+    form_so (tree.Number value) x id ty by h k c around own to = effect_so items body also told fuel x.loops (head id ty by)
         (shape_of items (tree.Number value) (head id ty by))
         (λ site. effects.Put site (effects.Number value (kind_of items ty))) (facts_of.number_is items ty value
         h).1.1.1 around own to
-    form_so (tree.Truth value) x id ty by h k c around own to = effect_so x.loops (head id ty by)
+    form_so (tree.Truth value) x id ty by h k c around own to = effect_so items body also told fuel x.loops (head id ty by)
         (shape_of items (tree.Truth value) (head id ty by)) (λ site. effects.Put site (effects.Truth value))
         (facts_of.bool_is items ty h).1.1 around own to
-    form_so tree.UnitValue x id ty by h k c around own to = effect_so x.loops (head id ty by)
+    form_so tree.UnitValue x id ty by h k c around own to = effect_so items body also told fuel x.loops (head id ty by)
         (shape_of items tree.UnitValue (head id ty by)) (λ site. effects.Put site effects.UnitValue)
         (facts_of.unit_is items ty h).1.1 around own to
-    form_so (tree.Variable key) x id ty by h k c around own to = used_so x.loops (tree.Variable key) id ty by
+    form_so (tree.Variable key) x id ty by h k c around own to = used_so items body also told fuel x.loops (tree.Variable key) id ty by
         (F (tree.Variable key) id ty by).reach (λ around S v. tt) (λ n. c n refl) around own to
-    form_so (tree.Captured closure part name) x id ty by h k c around own to = used_so x.loops (tree.Captured closure
+    form_so (tree.Captured closure part name) x id ty by h k c around own to = used_so items body also told fuel x.loops (tree.Captured closure
         part name) id ty by (F (tree.Captured closure part name) id ty by).reach (λ around S v. tt) (λ n. c n refl)
         around own to
-    form_so (tree.Field base part) x id ty by h k c around own to = used_so x.loops (tree.Field base part) id ty by
-        (F (tree.Field base part) id ty by).reach (λ around. less x.loops _ _ (node_reached base x Base h.0 k around))
+    form_so (tree.Field base part) x id ty by h k c around own to = used_so items body also told fuel x.loops (tree.Field base part) id ty by
+        (F (tree.Field base part) id ty by).reach (λ around. less items body also told fuel x.loops _ _ (node_reached base x Base h.0 k around))
         (λ n. c n refl) around own to
-    form_so (tree.Index base index count) x id ty by h k c around own to = used_so x.loops (tree.Index base index
+    form_so (tree.Index base index count) x id ty by h k c around own to = used_so items body also told fuel x.loops (tree.Index base index
         count) id ty by (F (tree.Index base index count) id ty by).reach (λ around. rules.element_so items r x.loops
         (head id ty by) (shape_of items (tree.Index base index count) (head id ty by)) (N base) (N index) count around
-        (less x.loops _ _ (node_reached base x Base h.0 (left (reached_cells items base) (cells items true index) k)
-        around)) (less x.loops _ _ (own_so index x Taken h.1.0 (right (reached_cells items base) (cells items true
+        (less items body also told fuel x.loops _ _ (node_reached base x Base h.0 (left (reached_cells items base) (cells items true index) k)
+        around)) (less items body also told fuel x.loops _ _ (own_so index x Taken h.1.0 (right (reached_cells items base) (cells items true
         index) k) around false (Into (N index).head.id)))) (λ n. c n refl) around own to
-    form_so (tree.Deref base) x id ty by h k c around own to = used_so x.loops (tree.Deref base) id ty by
-        (F (tree.Deref base) id ty by).reach (λ around. less x.loops _ _ (node_reached base x Base h.0 k around))
+    form_so (tree.Deref base) x id ty by h k c around own to = used_so items body also told fuel x.loops (tree.Deref base) id ty by
+        (F (tree.Deref base) id ty by).reach (λ around. less items body also told fuel x.loops _ _ (node_reached base x Base h.0 k around))
         (λ n. c n refl) around own to
-    form_so (tree.Not operand) x id ty by h k c around own to = operands_so x.loops (head id ty by)
+    form_so (tree.Not operand) x id ty by h k c around own to = operands_so items body also told fuel x.loops (head id ty by)
         (shape_of items (tree.Not operand) (head id ty by)) (N operand ∷ [])
         (λ site. effects.Not site (moved id (N operand).head.id))
-        (one_of x.loops (ty_of operand) (N operand) (own_so operand x Taken h.0 k)) (facts_of.bool_is items ty
+        (one_of items body also told fuel x.loops (ty_of operand) (N operand) (own_so operand x Taken h.0 k)) (facts_of.bool_is items ty
         h.1.1).1.1 around own to
-    form_so (tree.Negate operand) x id ty by h k c around own to = operands_so x.loops (head id ty by)
+    form_so (tree.Negate operand) x id ty by h k c around own to = operands_so items body also told fuel x.loops (head id ty by)
         (shape_of items (tree.Negate operand) (head id ty by)) (N operand ∷ [])
         (λ site. effects.Negate site (moved id (N operand).head.id))
-        (one_of x.loops (ty_of operand) (N operand) (own_so operand x Taken h.0 k))
+        (one_of items body also told fuel x.loops (ty_of operand) (N operand) (own_so operand x Taken h.0 k))
         (facts_of.signed_is items ty h.1.1).1.1.1 around own to
-    form_so (tree.Arithmetic operator a b) x id ty by h k c around own to = operands_so x.loops (head id ty by)
+    form_so (tree.Arithmetic operator a b) x id ty by h k c around own to = operands_so items body also told fuel x.loops (head id ty by)
         (shape_of items (tree.Arithmetic operator a b) (head id ty by)) (N a ∷ N b ∷ [])
         (λ site. effects.Compute site operator (moved id (N a).head.id) (moved id (N b).head.id))
-        (more_of x.loops (ty_of a) (N a) (N b ∷ [])
+        (more_of items body also told fuel x.loops (ty_of a) (N a) (N b ∷ [])
         (own_so a x (Wanted ty) h.0 (left (cells items true a) (cells items true b) k))
-        (one_of x.loops (ty_of b) (N b) (own_so b x (Wanted ty) h.1.0 (right (cells items true a) (cells items true b)
+        (one_of items body also told fuel x.loops (ty_of b) (N b) (own_so b x (Wanted ty) h.1.0 (right (cells items true a) (cells items true b)
         k)))) (facts_of.int_is items ty h.1.1.0).1.1 around own to
-    form_so (tree.Comparison operator a b) x id ty by h k c around own to = operands_so x.loops (head id ty by)
+    form_so (tree.Comparison operator a b) x id ty by h k c around own to = operands_so items body also told fuel x.loops (head id ty by)
         (shape_of items (tree.Comparison operator a b) (head id ty by)) (N a ∷ N b ∷ [])
         (λ site. effects.Compare site operator (moved id (N a).head.id) (moved id (N b).head.id))
-        (more_of x.loops (ty_of a) (N a) (N b ∷ [])
+        (more_of items body also told fuel x.loops (ty_of a) (N a) (N b ∷ [])
         (own_so a x Taken h.0 (left (cells items true a) (cells items true b) k))
-        (one_of x.loops (ty_of b) (N b) (own_so b x Taken h.1.0 (right (cells items true a) (cells items true b) k))))
+        (one_of items body also told fuel x.loops (ty_of b) (N b) (own_so b x Taken h.1.0 (right (cells items true a) (cells items true b) k))))
         (facts_of.bool_is items ty h.1.1.1).1.1 around own to
     form_so (tree.And a b) x id ty by h k c around own to =
         let into = to_own_key (is_never items ty) id to in
-        sure x.loops ty _ (facts_of.bool_is items ty h.1.1.1.1).1.1 (rules.own_so items r x.loops None_ (head id ty
+        sure items body also told fuel x.loops ty _ (facts_of.bool_is items ty h.1.1.1.1).1.1 (rules.own_so items r x.loops None_ (head id ty
         by) own _ (rules.condition_so items r x.loops None_ around (N a) _ _
-        (less x.loops _ _ (own_so a x Taken h.0 (left (cells items true a) (cells items false b) k) around true (Into
-        (N a).head.id))) (less x.loops _ _ (rules.alone_so items r x.loops (Mades (ty_of b)) around (N b) into
+        (less items body also told fuel x.loops _ _ (own_so a x Taken h.0 (left (cells items true a) (cells items false b) k) around true (Into
+        (N a).head.id))) (less items body also told fuel x.loops _ _ (rules.alone_so items r x.loops (Mades (ty_of b)) around (N b) into
         (node_so b x Taken h.1.0 (right (cells items true a) (cells items false b) k) around true into)))
         (rules.deliver_so items r x.loops (head id ty by) (λ site. effects.Put site (effects.Truth false)) into)))
     form_so (tree.Or a b) x id ty by h k c around own to =
         let into = to_own_key (is_never items ty) id to in
-        sure x.loops ty _ (facts_of.bool_is items ty h.1.1.1.1).1.1 (rules.own_so items r x.loops None_ (head id ty
+        sure items body also told fuel x.loops ty _ (facts_of.bool_is items ty h.1.1.1.1).1.1 (rules.own_so items r x.loops None_ (head id ty
         by) own _ (rules.condition_so items r x.loops None_ around (N a) _ _
-        (less x.loops _ _ (own_so a x Taken h.0 (left (cells items true a) (cells items false b) k) around true (Into
+        (less items body also told fuel x.loops _ _ (own_so a x Taken h.0 (left (cells items true a) (cells items false b) k) around true (Into
         (N a).head.id))) (rules.deliver_so items r x.loops (head id ty by) (λ site. effects.Put site (effects.Truth
-        true)) into) (less x.loops _ _ (rules.alone_so items r x.loops (Mades (ty_of b)) around (N b) into
+        true)) into) (less items body also told fuel x.loops _ _ (rules.alone_so items r x.loops (Mades (ty_of b)) around (N b) into
         (node_so b x Taken h.1.0 (right (cells items true a) (cells items false b) k) around true into)))))
     form_so (tree.Assign target value) x id ty by h k c around own to =
-        sure x.loops ty _ (facts_of.unit_is items ty h.1.1.1).1.1 (rules.assigning_so items r x.loops (head id ty by)
+        sure items body also told fuel x.loops ty _ (facts_of.unit_is items ty h.1.1.1).1.1 (rules.assigning_so items r x.loops (head id ty by)
         (N target) (N value) around own (to_own_key (is_never items ty) id to)
-        (less x.loops _ _ (own_so value x (Wanted (ty_of target)) h.1.1.0
+        (less items body also told fuel x.loops _ _ (own_so value x (Wanted (ty_of target)) h.1.1.0
         (right (reached_cells items target) (cells items true value) k) around false (Into (N value).head.id)))
-        (less x.loops _ _ (node_reached target x Stored h.0 (left (reached_cells items target) (cells items true
+        (less items body also told fuel x.loops _ _ (node_reached target x Stored h.0 (left (reached_cells items target) (cells items true
         value) k) around)))
     form_so (tree.Call callee args) x id ty by h k c around own to =
         let t = some_holds (slice_get items.bodies callee)
         (λ sig. both (fact (types.is_same ty sig.result)) (typing.arguments (K x) sig.params args)) h.0 in
-        called_so x.loops id ty by (shape_of items (tree.Call callee args) (head id ty by)) (Ns args) callee
+        called_so items body also told fuel x.loops id ty by (shape_of items (tree.Call callee args) (head id ty by)) (Ns args) callee
         (args_so t.0.params args x t.1.1.1 k) (λ n. c n refl) around own to
     form_so (tree.MethodCall callee receiver args) x id ty by h k c around own to =
         let t = some_holds (slice_get items.bodies callee) (λ sig. both (fact (types.is_same ty sig.result))
         (typing.first_and_rest (λ t. typing.typed (K x) (Passed t) receiver) (λ ts. typing.arguments (K x) ts args)
         sig.params)) h.0 in
-        called_so x.loops id ty by (shape_of items (tree.MethodCall callee receiver args) (head id ty by))
+        called_so items body also told fuel x.loops id ty by (shape_of items (tree.MethodCall callee receiver args) (head id ty by))
         (N receiver ∷ Ns args) callee
-        (passed_so x.loops t.0.params receiver args x t.1.1.1
+        (passed_so items body also told fuel x.loops t.0.params receiver args x t.1.1.1
         (λ t' j. own_so receiver x (Passed t') j (left (cells items true receiver) (all_cells items args) k))
         (λ ts j. args_so ts args x j (right (cells items true receiver) (all_cells items args) k))) (λ n. c n refl)
         around own to
@@ -463,9 +245,9 @@ module _ (items : ItemTable) (body : BodyTree) (also : Also) (told : Told items)
         let t = some_holds (slice_get d.0.methods method) (λ sig. both (fact (types.is_same ty sig.result))
         (typing.first_and_rest (λ t. typing.typed (K x) (Passed t) receiver) (λ ts. typing.arguments (K x) ts args)
         sig.params)) d.1.1 in
-        virtual_so x.loops id ty by (shape_of items (tree.VirtualCall trait_no method receiver args) (head id ty by))
+        virtual_so items body also told fuel x.loops id ty by (shape_of items (tree.VirtualCall trait_no method receiver args) (head id ty by))
         (N receiver ∷ Ns args) trait_no method
-        (passed_so x.loops t.0.params receiver args x t.1.1.1
+        (passed_so items body also told fuel x.loops t.0.params receiver args x t.1.1.1
         (λ t' j. own_so receiver x (Passed t') j (left (cells items true receiver) (all_cells items args) k))
         (λ ts j. args_so ts args x j (right (cells items true receiver) (all_cells items args) k))) (λ n. c n refl)
         around own to
@@ -473,9 +255,9 @@ module _ (items : ItemTable) (body : BodyTree) (also : Also) (told : Told items)
         let t = some_holds (slice_get items.bodies callee) (λ sig. both (fact (types.is_same ty sig.result))
         (typing.first_and_rest (λ t. typing.typed (K x) (Passed t) inside) (λ ts. typing.arguments (K x) ts args)
         sig.params)) h.0 in
-        called_so x.loops id ty by (shape_of items (tree.ClosureCall callee inside args) (head id ty by))
+        called_so items body also told fuel x.loops id ty by (shape_of items (tree.ClosureCall callee inside args) (head id ty by))
         (N inside ∷ Ns args) callee
-        (passed_so x.loops t.0.params inside args x t.1.1.1
+        (passed_so items body also told fuel x.loops t.0.params inside args x t.1.1.1
         (λ t' j. own_so inside x (Passed t') j (left (cells items true inside) (all_cells items args) k))
         (λ ts j. args_so ts args x j (right (cells items true inside) (all_cells items args) k))) (λ n. c n refl)
         around own to
@@ -485,65 +267,65 @@ module _ (items : ItemTable) (body : BodyTree) (also : Also) (told : Told items)
         && length (patterns.field_numbers fields) == length v.fields))
         (typing.made_fields (K x) v.fields fields)) h.1 in
         let a = found_by (λ n. n == adt) (types.adt_of items ty) h.0 in
-        operands_so x.loops (head id ty by) (shape_of items (tree.Make adt variant fields) (head id ty by))
+        operands_so items body also told fuel x.loops (head id ty by) (shape_of items (tree.Make adt variant fields) (head id ty by))
         (values_of (Nf fields))
         (λ site. effects.Build site (OfVariant adt variant) (all_moved id (values_of (in_number_order (Nf fields)))))
         (fields_so t.0.fields fields x t.1.1.1 k) (made_by types.adt_in refl (type_at items ty) a.0 a.1) around own to
     form_so (tree.Tuple parts) x id ty by h k c around own to =
         let t = some_holds (types.tuple_of items ty) (λ tys. typing.made_parts (K x) tys parts) h in
-        operands_so x.loops (head id ty by) (shape_of items (tree.Tuple parts) (head id ty by)) (Ns parts)
+        operands_so items body also told fuel x.loops (head id ty by) (shape_of items (tree.Tuple parts) (head id ty by)) (Ns parts)
         (λ site. effects.Build site OfTuple (all_moved id (Ns parts))) (parts_so t.0 parts x t.1.1 k)
         (made_by types.tuple_in refl (type_at items ty) t.0 t.1.0) around own to
     form_so (tree.Array elements) x id ty by h k c around own to =
         let t = some_holds (types.array_of items ty) (λ a. both (fact (patterns.count_of elements == a.1))
         (typing.elements_of (K x) a.0 elements)) h in
-        operands_so x.loops (head id ty by) (shape_of items (tree.Array elements) (head id ty by)) (Ns elements)
+        operands_so items body also told fuel x.loops (head id ty by) (shape_of items (tree.Array elements) (head id ty by)) (Ns elements)
         (λ site. effects.Build site OfArray (all_moved id (Ns elements))) (elements_so t.0.0 elements x t.1.1.1 k)
         (made_by types.array_in refl (type_at items ty) t.0 t.1.0) around own to
     form_so (tree.Closure closure captures) x id ty by h k c around own to =
         let t = some_holds (slice_get items.closures closure) (λ def. typing.captured (K x) def.captures captures) h.1
         in
         let a = found_by (λ n. n == closure) (types.closure_of items ty) h.0 in
-        operands_so x.loops (head id ty by) (shape_of items (tree.Closure closure captures) (head id ty by)) (Ns
+        operands_so items body also told fuel x.loops (head id ty by) (shape_of items (tree.Closure closure captures) (head id ty by)) (Ns
         captures) (λ site. effects.Build site (OfClosure closure) (all_moved id (Ns captures)))
         (captures_so t.0.captures captures x t.1.1 k) (made_by types.closure_in refl (type_at items ty) a.0 a.1)
         around own to
     form_so (tree.NewBox content) x id ty by h k c around own to =
         let t = some_holds (types.boxed_of items ty) (λ inside. both (typing.typed (K x) (Wanted inside) content)
         (fact (not (types.is_dyn items inside)))) h in
-        operands_so x.loops (head id ty by) (shape_of items (tree.NewBox content) (head id ty by)) (N content ∷ [])
+        operands_so items body also told fuel x.loops (head id ty by) (shape_of items (tree.NewBox content) (head id ty by)) (N content ∷ [])
         (λ site. effects.NewBox site (moved id (N content).head.id))
-        (one_of x.loops (ty_of content) (N content) (own_so content x (Wanted t.0) t.1.1.0 k))
+        (one_of items body also told fuel x.loops (ty_of content) (N content) (own_so content x (Wanted t.0) t.1.1.0 k))
         (made_by types.boxed_in refl (type_at items ty) t.0 t.1.0) around own to
-    form_so (tree.Print operand) x id ty by h k c around own to = gives_unit_so x.loops (head id ty by)
+    form_so (tree.Print operand) x id ty by h k c around own to = gives_unit_so items body also told fuel x.loops (head id ty by)
         (shape_of items (tree.Print operand) (head id ty by)) (N operand) effects.Print
-        (one_of x.loops (ty_of operand) (N operand) (own_so operand x Taken h.0 k)) (facts_of.unit_is items ty
+        (one_of items body also told fuel x.loops (ty_of operand) (N operand) (own_so operand x Taken h.0 k)) (facts_of.unit_is items ty
         h.1.1).1.1 around own to
-    form_so tree.Ask x id ty by h k c around own to = effect_so x.loops (head id ty by)
+    form_so tree.Ask x id ty by h k c around own to = effect_so items body also told fuel x.loops (head id ty by)
         (shape_of items tree.Ask (head id ty by)) effects.Ask (facts_of.i32_is items ty h).1.1 around own to
     form_so (tree.DropValue operand) x id ty by h k c around own to =
-        sure x.loops ty _ (facts_of.unit_is items ty h.1).1.1 (rules.dropping_so items r x.loops (head id ty by)
+        sure items body also told fuel x.loops ty _ (facts_of.unit_is items ty h.1).1.1 (rules.dropping_so items r x.loops (head id ty by)
         around own (N operand) (forms.put_unit items r (head id ty by) (to_own_key (is_never items ty) id to))
-        (less x.loops _ _ (own_so operand x Taken h.0 k around false (Into (N operand).head.id)))
+        (less items body also told fuel x.loops _ _ (own_so operand x Taken h.0 k around false (Into (N operand).head.id)))
         (rules.unit_so items r x.loops (head id ty by) (to_own_key (is_never items ty) id to)))
-    form_so (tree.Forget operand) x id ty by h k c around own to = gives_unit_so x.loops (head id ty by)
+    form_so (tree.Forget operand) x id ty by h k c around own to = gives_unit_so items body also told fuel x.loops (head id ty by)
         (shape_of items (tree.Forget operand) (head id ty by)) (N operand) effects.Forget
-        (one_of x.loops (ty_of operand) (N operand) (own_so operand x Taken h.0 k)) (facts_of.unit_is items ty
+        (one_of items body also told fuel x.loops (ty_of operand) (N operand) (own_so operand x Taken h.0 k)) (facts_of.unit_is items ty
         h.1).1.1 around own to
     form_so tree.Panic x id ty by h k c around own to = λ S v. tt
     form_so (tree.Borrow unique base) x id ty by h k c around own to =
         let t = some_holds (types.reference_of items ty) (λ z. both (fact (types.is_same (ty_of base) z.1))
         (fact (if unique then z.0 else not z.0))) h.1.1 in
-        sure x.loops ty _ (made_by types.reference_in refl (type_at items ty) t.0 t.1.0)
+        sure items body also told fuel x.loops ty _ (made_by types.reference_in refl (type_at items ty) t.0 t.1.0)
         (rules.own_so items r x.loops None_ (head id ty by) own _
         (rules.both_so items r x.loops None_ None_ _ _
-        (less x.loops _ _ (node_reached base x (Used (borrow_by unique)) h.0 k around))
+        (less items body also told fuel x.loops _ _ (node_reached base x (Used (borrow_by unique)) h.0 k around))
         (λ u. rules.deliver_so items r x.loops (head id ty by)
         (λ site. effects.Borrow (record site { node = (N base).head.id }) unique (site_of (N base) around))
         (to_own_key (is_never items ty) id to))))
     form_so (tree.Unsize trait_no operand) x id ty by h k c around own to =
-        sure x.loops ty _ (facts_of.coerces items ty (ty_of operand) trait_no h.1.1).object_alone.1
-        (less x.loops _ _ (own_so operand x Taken h.0 k around own
+        sure items body also told fuel x.loops ty _ (facts_of.coerces items ty (ty_of operand) trait_no h.1.1).object_alone.1
+        (less items body also told fuel x.loops _ _ (own_so operand x Taken h.0 k around own
         (coerced (N operand).head.id trait_no (to_own_key (is_never items ty) id to))))
     form_so (tree.Block stmts tail) x id ty by h k c around own to =
         rules.block_so items r x.loops (typing.ends_in items stmts ≡ false) (Mades ty) (head id ty by) (Ns stmts) (Ni
@@ -551,18 +333,18 @@ module _ (items : ItemTable) (body : BodyTree) (also : Also) (told : Told items)
         (statements_so stmts x (λ d. typing.tail_of d tail) h.0 (left (all_cells items stmts) (cells_if_any items
         false tail) k) around)
         (λ e. subst (λ l. Makes l (Mades ty) (forms.tail_of items r (head id ty by) (Ni tail) around
-        (to_own_key (is_never items ty) id to))) (same_loops stmts x)
+        (to_own_key (is_never items ty) id to))) (same_loops items body also told fuel stmts x)
         (tail_so tail (behind x stmts) stmts id ty by (at_nodes.behind_holds items body told fuel stmts x
         (λ d. typing.tail_of d tail) h.0) (right (all_cells items stmts) (cells_if_any items false tail) k) h.1 e around
         (to_own_key (is_never items ty) id to)))
     form_so (tree.If test consequent absent) x id ty by h k c around own to =
         let kc = left (cells items true test ++ cells items false consequent) [] k in
         let into = to_own_key (is_never items ty) id to in
-        sure x.loops ty _ (facts_of.unit_is items ty h.1.1.1.1).1.1 (rules.own_so items r x.loops None_ (head id ty
+        sure items body also told fuel x.loops ty _ (facts_of.unit_is items ty h.1.1.1.1).1.1 (rules.own_so items r x.loops None_ (head id ty
         by) own _ (rules.condition_so items r x.loops None_ around (N test) _ _
-        (less x.loops _ _ (own_so test x Taken h.0 (left (cells items true test) (cells items false consequent) kc)
+        (less items body also told fuel x.loops _ _ (own_so test x Taken h.0 (left (cells items true test) (cells items false consequent) kc)
         around true (Into (N test).head.id)))
-        (less x.loops _ _ (rules.alone_so items r x.loops (Mades (ty_of consequent)) around (N consequent) into
+        (less items body also told fuel x.loops _ _ (rules.alone_so items r x.loops (Mades (ty_of consequent)) around (N consequent) into
         (node_so consequent x Taken h.1.1.0 (right (cells items true test) (cells items false consequent) kc) around
         true into))) (rules.unit_so items r x.loops (head id ty by) into)))
     form_so (tree.If test consequent (present otherwise)) x id ty by h k c around own to =
@@ -570,13 +352,13 @@ module _ (items : ItemTable) (body : BodyTree) (also : Also) (told : Told items)
         let into = to_own_key (is_never items ty) id to in
         rules.own_so items r x.loops (Mades ty) (head id ty by) own _
         (rules.condition_so items r x.loops (Mades ty) around (N test) _ _
-        (less x.loops _ _ (own_so test x Taken h.0 (left (cells items true test) (cells items false consequent) kc)
+        (less items body also told fuel x.loops _ _ (own_so test x Taken h.0 (left (cells items true test) (cells items false consequent) kc)
         around true (Into (N test).head.id)))
-        (fits_so x.loops ty consequent _ (common_first ty (ty_of consequent) (ty_of otherwise ∷ []) h.1.1.1.1)
+        (fits_so items body also told fuel x.loops ty consequent _ (common_first items body also told fuel ty (ty_of consequent) (ty_of otherwise ∷ []) h.1.1.1.1)
         (rules.alone_so items r x.loops (Mades (ty_of consequent)) around (N consequent) into
         (node_so consequent x Taken h.1.1.0 (right (cells items true test) (cells items false consequent) kc) around
         true into)))
-        (fits_so x.loops ty otherwise _ (common_second ty (ty_of consequent) (ty_of otherwise) h.1.1.1.1)
+        (fits_so items body also told fuel x.loops ty otherwise _ (common_second items body also told fuel ty (ty_of consequent) (ty_of otherwise) h.1.1.1.1)
         (rules.alone_so items r x.loops (Mades (ty_of otherwise)) around (N otherwise) into
         (node_so otherwise x Taken h.1.1.1.0 (right (cells items true test ++ cells items false consequent)
         (cells items false otherwise) k) around true into))))
@@ -584,11 +366,11 @@ module _ (items : ItemTable) (body : BodyTree) (also : Also) (told : Told items)
         let k3 = left ((cells items true p ++ reached_cells items scrutinee) ++ cells items false consequent) [] k in
         let k2 = left (cells items true p ++ reached_cells items scrutinee) (cells items false consequent) k3 in
         let into = to_own_key (is_never items ty) id to in
-        sure x.loops ty _ (facts_of.unit_is items ty h.1.1.1.1).1.1 (rules.own_so items r x.loops None_ (head id ty
+        sure items body also told fuel x.loops ty _ (facts_of.unit_is items ty h.1.1.1.1).1.1 (rules.own_so items r x.loops None_ (head id ty
         by) own _ (rules.if_taken_so items r x.loops None_ (head id ty by) around (N p) (N scrutinee) _ _
-        (less x.loops _ _ (node_reached scrutinee x (Used Use.Borrow) h.0
+        (less items body also told fuel x.loops _ _ (node_reached scrutinee x (Used Use.Borrow) h.0
         (right (cells items true p) (reached_cells items scrutinee) k2) around))
-        (less x.loops _ _ (rules.alone_so items r x.loops (Mades (ty_of consequent)) around (N consequent) into
+        (less items body also told fuel x.loops _ _ (rules.alone_so items r x.loops (Mades (ty_of consequent)) around (N consequent) into
         (node_so consequent (with_names (patterns.entries_of p) x) Taken h.1.1.0
         (right (cells items true p ++ reached_cells items scrutinee) (cells items false consequent) k3) around true
         into))) (rules.unit_so items r x.loops (head id ty by) into)))
@@ -599,13 +381,13 @@ module _ (items : ItemTable) (body : BodyTree) (also : Also) (told : Told items)
         let into = to_own_key (is_never items ty) id to in
         rules.own_so items r x.loops (Mades ty) (head id ty by) own _
         (rules.if_taken_so items r x.loops (Mades ty) (head id ty by) around (N p) (N scrutinee) _ _
-        (less x.loops _ _ (node_reached scrutinee x (Used Use.Borrow) h.0
+        (less items body also told fuel x.loops _ _ (node_reached scrutinee x (Used Use.Borrow) h.0
         (right (cells items true p) (reached_cells items scrutinee) k2) around))
-        (fits_so x.loops ty consequent _ (common_first ty (ty_of consequent) (ty_of otherwise ∷ []) h.1.1.1.1)
+        (fits_so items body also told fuel x.loops ty consequent _ (common_first items body also told fuel ty (ty_of consequent) (ty_of otherwise ∷ []) h.1.1.1.1)
         (rules.alone_so items r x.loops (Mades (ty_of consequent)) around (N consequent) into
         (node_so consequent (with_names (patterns.entries_of p) x) Taken h.1.1.0
         (right (cells items true p ++ reached_cells items scrutinee) (cells items false consequent) k3) around true
-        into))) (fits_so x.loops ty otherwise _ (common_second ty (ty_of consequent) (ty_of otherwise) h.1.1.1.1)
+        into))) (fits_so items body also told fuel x.loops ty otherwise _ (common_second items body also told fuel ty (ty_of consequent) (ty_of otherwise) h.1.1.1.1)
         (rules.alone_so items r x.loops (Mades (ty_of otherwise)) around (N otherwise) into
         (node_so otherwise x Taken h.1.1.1.0
         (right ((cells items true p ++ reached_cells items scrutinee) ++ cells items false consequent)
@@ -613,7 +395,7 @@ module _ (items : ItemTable) (body : BodyTree) (also : Also) (told : Told items)
     form_so (tree.Match scrutinee arms) x id ty by h k c around own to =
         rules.matching_so items r x.loops (Mades ty) (head id ty by) (N scrutinee) (Ns arms) around own
         (to_own_key (is_never items ty) id to)
-        (less x.loops _ _ (node_reached scrutinee x (Used Use.Borrow) h.0
+        (less items body also told fuel x.loops _ _ (node_reached scrutinee x (Used Use.Borrow) h.0
         (left (reached_cells items scrutinee) (all_cells items arms) k) around))
         (arms_so arms x (typing.matched_in false (K x) scrutinee) (ty_of scrutinee) ty h.1.0
         (facts_of.left_of (list_all (types.fits items ty) (typing.types_in arms)) _ h.1.1.0)
@@ -622,7 +404,7 @@ module _ (items : ItemTable) (body : BodyTree) (also : Also) (told : Told items)
         let a = at_nodes.around_a items body told fuel id ty true in
         let into = to_own_key (is_never items ty) id to in
         rules.own_so items r x.loops (Mades ty) (head id ty by) own _ (rules.turns_so items r fuel id ty true x.loops _
-        (less (in_a_loop a x).loops _ _ (rules.alone_so items r (in_a_loop a x).loops (Mades (ty_of inner))
+        (less items body also told fuel (in_a_loop a x).loops _ _ (rules.alone_so items r (in_a_loop a x).loops (Mades (ty_of inner))
         (in_loop id into around) (N inner) (Into (N inner).head.id)
         (own_so inner (in_a_loop a x) Taken h.0 k (in_loop id into around) true (Into (N inner).head.id)))))
     form_so (tree.While test inner) x id ty by h k c around own to =
@@ -631,12 +413,12 @@ module _ (items : ItemTable) (body : BodyTree) (also : Also) (told : Told items)
         let y = in_a_loop a x in
         rules.own_so items r x.loops (Mades ty) (head id ty by) own _ (rules.turns_so items r fuel id ty false x.loops _
         (rules.condition_so items r y.loops None_ (in_loop id into around) (N test) _ _
-        (less y.loops _ _ (own_so test y Taken h.0 (left (cells items true test) (cells items true inner) k)
+        (less items body also told fuel y.loops _ _ (own_so test y Taken h.0 (left (cells items true test) (cells items true inner) k)
         (in_loop id into around) true (Into (N test).head.id)))
-        (less y.loops _ _ (rules.alone_so items r y.loops (Mades (ty_of inner)) (in_loop id into around) (N inner)
+        (less items body also told fuel y.loops _ _ (rules.alone_so items r y.loops (Mades (ty_of inner)) (in_loop id into around) (N inner)
         (Into (N inner).head.id) (own_so inner y Taken h.1.1.0 (right (cells items true test) (cells items true inner)
         k) (in_loop id into around) true (Into (N inner).head.id))))
-        (ends_so id ty by x.loops (facts_of.unit_is items ty h.1.1.1.1).1.1 into)))
+        (ends_so items body also told fuel id ty by x.loops (facts_of.unit_is items ty h.1.1.1.1).1.1 into)))
     form_so (tree.WhileLet p scrutinee inner) x id ty by h k c around own to =
         let a = at_nodes.around_a items body told fuel id ty false in
         let into = to_own_key (is_never items ty) id to in
@@ -644,13 +426,13 @@ module _ (items : ItemTable) (body : BodyTree) (also : Also) (told : Told items)
         let k2 = left (cells items true p ++ reached_cells items scrutinee) (cells items true inner) k in
         rules.own_so items r x.loops (Mades ty) (head id ty by) own _ (rules.turns_so items r fuel id ty false x.loops _
         (rules.if_taken_so items r y.loops None_ (head id ty by) (in_loop id into around) (N p) (N scrutinee) _ _
-        (less y.loops _ _ (node_reached scrutinee y (Used Use.Borrow) h.0
+        (less items body also told fuel y.loops _ _ (node_reached scrutinee y (Used Use.Borrow) h.0
         (right (cells items true p) (reached_cells items scrutinee) k2) (in_loop id into around)))
-        (less y.loops _ _ (rules.alone_so items r y.loops (Mades (ty_of inner)) (in_loop id into around) (N inner)
+        (less items body also told fuel y.loops _ _ (rules.alone_so items r y.loops (Mades (ty_of inner)) (in_loop id into around) (N inner)
         (Into (N inner).head.id) (own_so inner (with_names (patterns.entries_of p) y) Taken h.1.1.0
         (right (cells items true p ++ reached_cells items scrutinee) (cells items true inner) k) (in_loop id into
         around) true (Into (N inner).head.id))))
-        (ends_so id ty by x.loops (facts_of.unit_is items ty h.1.1.1.1).1.1 into)))
+        (ends_so items body also told fuel id ty by x.loops (facts_of.unit_is items ty h.1.1.1.1).1.1 into)))
     form_so (tree.Break loop value) x id ty by h k c around own to =
         let t = some_holds (loop_with loop x.loops) (λ a. typing.carries (K x) a value) h.0 in
         rules.own_so items r x.loops (Mades ty) (head id ty by) own _
@@ -671,7 +453,7 @@ module _ (items : ItemTable) (body : BodyTree) (also : Also) (told : Told items)
     args_so tys no_node x h k around = tt
     args_so [] (a_node first rest) x h k around = absurd (false≢true h)
     args_so (ty ∷ tys) (a_node first rest) x h k around = (
-      less x.loops _ _ (own_so first x (Passed ty) h.0 (left (cells items true first) (all_cells items rest) k) around
+      less items body also told fuel x.loops _ _ (own_so first x (Passed ty) h.0 (left (cells items true first) (all_cells items rest) k) around
           false (Into (N first).head.id)),
       args_so tys rest x h.1 (right (cells items true first) (all_cells items rest) k) around,
     )
@@ -681,7 +463,7 @@ module _ (items : ItemTable) (body : BodyTree) (also : Also) (told : Told items)
     parts_so tys no_node x h k around = tt
     parts_so [] (a_node first rest) x h k around = absurd (false≢true h)
     parts_so (ty ∷ tys) (a_node first rest) x h k around = (
-      less x.loops _ _ (own_so first x (Wanted ty) h.0 (left (cells items true first) (all_cells items rest) k) around
+      less items body also told fuel x.loops _ _ (own_so first x (Wanted ty) h.0 (left (cells items true first) (all_cells items rest) k) around
           false (Into (N first).head.id)),
       parts_so tys rest x h.1 (right (cells items true first) (all_cells items rest) k) around,
     )
@@ -690,7 +472,7 @@ module _ (items : ItemTable) (body : BodyTree) (also : Also) (told : Told items)
         H (all_cells items ns) → AllE x.loops (Ns ns)
     elements_so ty no_node x h k around = tt
     elements_so ty (a_node first rest) x h k around = (
-      less x.loops _ _ (own_so first x (Wanted ty) h.0 (left (cells items true first) (all_cells items rest) k) around
+      less items body also told fuel x.loops _ _ (own_so first x (Wanted ty) h.0 (left (cells items true first) (all_cells items rest) k) around
           false (Into (N first).head.id)),
       elements_so ty rest x h.1 (right (cells items true first) (all_cells items rest) k) around,
     )
@@ -700,7 +482,7 @@ module _ (items : ItemTable) (body : BodyTree) (also : Also) (told : Told items)
     captures_so tys no_node x h k around = tt
     captures_so [] (a_node first rest) x h k around = absurd (false≢true h)
     captures_so (ty ∷ tys) (a_node first rest) x h k around = (
-      less x.loops _ _ (own_so first x Taken h.0 (left (cells items true first) (all_cells items rest) k) around false
+      less items body also told fuel x.loops _ _ (own_so first x Taken h.0 (left (cells items true first) (all_cells items rest) k) around false
           (Into (N first).head.id)),
       captures_so tys rest x h.1.1 (right (cells items true first) (all_cells items rest) k) around,
     )
@@ -710,7 +492,7 @@ module _ (items : ItemTable) (body : BodyTree) (also : Also) (told : Told items)
     fields_so tys no_field x h k around = tt
     fields_so tys (a_field number value rest) x h k around =
         let t = some_holds (slice_get tys number) (λ ty. typing.typed (K x) (Wanted ty) value) h.0 in (
-          less x.loops _ _ (own_so value x (Wanted t.0) t.1.1 (left (cells items true value) (cells_of_fields items
+          less items body also told fuel x.loops _ _ (own_so value x (Wanted t.0) t.1.1 (left (cells items true value) (cells_of_fields items
               rest) k) around false (Into (N value).head.id)),
           fields_so tys rest x h.1 (right (cells items true value) (cells_of_fields items rest) k) around,
         )
@@ -719,8 +501,8 @@ module _ (items : ItemTable) (body : BodyTree) (also : Also) (told : Told items)
         H (cells_if_any items false value) → (h : NodeHead) (around : LoopsAndGuards) (to : Destination) →
         Makes x.loops (Mades a.ty) (forms.value_of_jump items r h (Ni value) around to)
     carried_so absent x a j k h around to =
-        sure x.loops a.ty _ (facts_of.unit_is items a.ty j).1.1 (rules.unit_so items r x.loops h to)
-    carried_so (present value) x a j k h around to = fits_so x.loops a.ty value _
+        sure items body also told fuel x.loops a.ty _ (facts_of.unit_is items a.ty j).1.1 (rules.unit_so items r x.loops h to)
+    carried_so (present value) x a j k h around to = fits_so items body also told fuel x.loops a.ty value _
         (stand.wanted_fits items body told fuel x a.ty value j.1) (node_so value x (Wanted a.ty) j.1 k around false to)
 
     returned_so : (value : MaybeNode) (x : Standpoint) → Holds (typing.returned (K x) value) →
@@ -728,7 +510,7 @@ module _ (items : ItemTable) (body : BodyTree) (also : Also) (told : Told items)
         Makes x.loops None_ (forms.value_of_jump items r h (Ni value) around to)
     returned_so absent x j k h around to = rules.unit_so items r x.loops h to
     returned_so (present value) x j k h around to =
-        less x.loops _ _ (node_so value x (Wanted x.answer) j k around false to)
+        less items body also told fuel x.loops _ _ (node_so value x (Wanted x.answer) j k around false to)
 
     -- ---- blocks
 
@@ -736,9 +518,9 @@ module _ (items : ItemTable) (body : BodyTree) (also : Also) (told : Told items)
         Holds (typing.tail_of (K x) tail) → H (cells_if_any items false tail) →
         typing.is_block_ty items ty stmts tail ≡ true → typing.ends_in items stmts ≡ false → (around : LoopsAndGuards)
         (to : Destination) → Makes x.loops (Mades ty) (forms.tail_of items r (head id ty by) (Ni tail) around to)
-    tail_so absent x stmts id ty by j k t e around to = sure x.loops ty _
+    tail_so absent x stmts id ty by j k t e around to = sure items body also told fuel x.loops ty _
         (facts_of.unit_is items ty (subst (λ b. (if b then types.is_never items ty else types.is_unit items ty) ≡
-        true) e t)).1.1 (unit_if_so x.loops (is_never items ty) (head id ty by) to)
+        true) e t)).1.1 (unit_if_so items body also told fuel x.loops (is_never items ty) (head id ty by) to)
     tail_so (present tail) x stmts id ty by j k t e around to =
         subst (λ z. Makes x.loops (Mades z) (forms.alone items r around (N tail) to)) (sym (same_type ty (ty_of tail)
         t)) (rules.alone_so items r x.loops (Mades (ty_of tail)) around (N tail) to (node_so tail x Taken j k around
@@ -766,13 +548,13 @@ module _ (items : ItemTable) (body : BodyTree) (also : Also) (told : Told items)
         ((F form id ty by).evaluate around false (Into (F form id ty by).head.id))
     statement_so (tree.Let p absent) x id ty by h k around S v = rules.as_so items r x.loops None_
         (typing.ends_by items (tree.Let p absent) ≡ false) _ (λ u. refl)
-        (declared_so x.loops ((N p).shape.bindings (whole_local 0)) S v)
+        (declared_so items body also told fuel x.loops ((N p).shape.bindings (whole_local 0)) S v)
     statement_so (tree.Let (node pid pat pty pby (tree.Binding name)) (present value)) x id ty by h k around S v =
         let p = node pid pat pty pby (tree.Binding name) in
         rules.let_name_so items r x.loops (typing.ends_by items (tree.Let p (present value)) ≡ false) (head id ty by)
         (head pid pty pby) (N value) around
         (λ T w. rules.as_so items r x.loops (Mades (ty_of value)) (typing.ends_by items (tree.Let p (present value)) ≡
-        false) _ (λ m. named_ends value m)
+        false) _ (λ m. named_ends items body also told fuel value m)
         (node_so value x (Wanted pty) h.0 (right (cells items true p) (cells items false value) k) around false (Into
         pid) T w)) S v
     statement_so (tree.Let (node pid pat pty pby pform) (present value)) x id ty by h k around S v =
@@ -780,7 +562,7 @@ module _ (items : ItemTable) (body : BodyTree) (also : Also) (told : Told items)
         rules.let_parts_so items r x.loops (typing.ends_by items (tree.Let p (present value)) ≡ false) (head id ty by)
         (N p) (N value) around
         (λ T w. rules.as_so items r x.loops _ (typing.ends_by items (tree.Let p (present value)) ≡ false) _
-        (λ m. parted_ends value x h.0 m)
+        (λ m. parted_ends items body also told fuel value x h.0 m)
         (node_reached value x Base h.0 (right (cells items true p) (reached_cells items value) k) around T w)) S v
     statement_so (tree.Evaluate expression) x id ty by h k around S v =
         rules.evaluating_so items r x.loops (types.is_never items (ty_of expression) ≡ false) (head id ty by) (N
@@ -816,7 +598,7 @@ module _ (items : ItemTable) (body : BodyTree) (also : Also) (told : Told items)
         rules.arm_so items r x.loops (Mades whole) (head id ty by) (N p) (Ni guard) (N inner) place otherwise around to
         (guard_so guard (with_names (in_guard (patterns.entries_of p)) x) h.1.1.1.0
         (right (cells items true p) (cells_if_any items true guard) k2))
-        (fits_so x.loops whole inner _ (subst (λ t. types.fits items whole t ≡ true) (same_type ty (ty_of inner)
+        (fits_so items body also told fuel x.loops whole inner _ (subst (λ t. types.fits items whole t ≡ true) (same_type ty (ty_of inner)
         h.1.1.1.1.1) f) (node_so inner (with_names (patterns.entries_of p) x) Taken h.1.1.1.1.0
         (right (cells items true p ++ cells_if_any items true guard) (cells items false inner) k) around true to)) o
     arm_so form x m want whole id at ty by h f k around to place otherwise o = absurd (false≢true h)
@@ -829,8 +611,8 @@ module _ (items : ItemTable) (body : BodyTree) (also : Also) (told : Told items)
         subst (λ (o : Option (Meaning V)). (z : Meaning V) → o ≡ Some z →
         Makes x.loops None_ (z.evaluate inner true (Into z.head.id))) refl
         (λ z f. subst (λ (y : Meaning V). Makes x.loops None_ (y.evaluate inner true (Into y.head.id)))
-        (same_meaning (N guard) z f)
-        (less x.loops _ _ (own_so guard x Taken h.0 k inner true (Into (N guard).head.id)))) g e
+        (same_meaning items body also told fuel (N guard) z f)
+        (less items body also told fuel x.loops _ _ (own_so guard x Taken h.0 k inner true (Into (N guard).head.id)))) g e
 
   -- so one of type `!` has none
   pub never_ends : (n : Node) (x : Standpoint) (standing : Standing) → Holds (typing.typed (K x) standing n) →

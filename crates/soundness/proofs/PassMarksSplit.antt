@@ -6,7 +6,7 @@ use Rattle.std.proofs.lemmas.Bool.Decides.{Decides-eqb}
 use Rattle.mir_ty.specs.ItemTable.{ItemTable}
 use Rattle.store_model.proofs.Effects.Following.{Relation, FollowsOut, goes_on, unwinds, halts, lapsed, outlived, refused, FollowsChoice, takes, declines, neither, lapsed_choice, refused_choice, FollowsEffects, one_bound}
 use Rattle.store_model.specs.Abstract.Effects.{AbstractState}
-use Rattle.store_model.specs.Effects.{EffectSite, Action, Test, Mode, Halt, Aborted, OutOfTicks, Stuck, StuckAt, BadUse, BadStore, NoChoice, Infeasible, Unreachable, Out, Go, Unwind, Halts, Choice, Yes, No, Neither, Effects}
+use Rattle.store_model.specs.Effects.{EffectSite, Action, Test, Mode, Halt, StuckAt, Out, Go, Unwind, Halts, Choice, Yes, No, Neither, Effects}
 use Rattle.src_meaning.proofs.ProgramsFollow.{activation_follow}
 use Rattle.src_meaning.proofs.RunLaws.{located}
 use Rattle.src_meaning.specs.Locals.Effects.{at_locals}
@@ -109,14 +109,7 @@ module _ {F : Type 0} (own one two : ℕ) where
   of_halt : (o : Out (Checking F)) (halt : Halt) (w : Checking F) → o ≡ Halts halt w → OneOfTwo one two halt →
       EndsByEither o
   of_halt o (StuckAt mark block) w e k = (mark, (block, (w, (e, k))))
-  of_halt o Aborted w e k = absurd k
-  of_halt o OutOfTicks w e k = absurd k
-  of_halt o Stuck w e k = absurd k
-  of_halt o (BadUse site) w e k = absurd k
-  of_halt o (BadStore site) w e k = absurd k
-  of_halt o NoChoice w e k = absurd k
-  of_halt o Infeasible w e k = absurd k
-  of_halt o Unreachable w e k = absurd k
+  of_halt o other w e k = absurd k
 
   -- no effect of the first halts by this mark itself
   abbrev pub NotItself : Out (Checking F) → Type 0

@@ -1,6 +1,6 @@
 -- What holds of all references that are known holds of them after each action: these are fewer then, but for the one
 -- that a borrow makes.
-use Rattle.std.proofs.Common.{◌≡◌, ℕ, Bool, true, false, List, [], ◌∷◌, Option, refl}
+use Rattle.std.proofs.Common.{ℕ, Bool, true, false, List, [], ◌∷◌, Option}
 use Rattle.mir_ty.specs.declared.ty.TyId.{TyId}
 use Rattle.mir_ty.specs.ItemTable.{ItemTable}
 use Rattle.store_model.specs.Effects as effects
@@ -111,26 +111,9 @@ module _ (items : ItemTable) (local_ty : ℕ → Option TyId) (is_target : ℕ �
   pub unwound_named : (action : Action) (facts : Facts) → Makes action → AllNamed facts →
       AllNamed (checks.after_unwound items local_ty is_target action facts)
   unwound_named (effects.Bounds index length) facts m h = h
-  unwound_named (effects.Put to from) facts m h = action_named (effects.Put to from) facts m h
-  unwound_named (effects.Compare to operator left right) facts m h =
-      action_named (effects.Compare to operator left right) facts m h
-  unwound_named (effects.Not to operand) facts m h = action_named (effects.Not to operand) facts m h
-  unwound_named (effects.Build to kind parts) facts m h = action_named (effects.Build to kind parts) facts m h
-  unwound_named (effects.NewBox to content) facts m h = action_named (effects.NewBox to content) facts m h
-  unwound_named (effects.Unsize to trait_no operand) facts m h =
-      action_named (effects.Unsize to trait_no operand) facts m h
-  unwound_named (effects.Borrow to unique base) facts m h = action_named (effects.Borrow to unique base) facts m h
   unwound_named (effects.Touch base) facts m h = h
-  unwound_named (effects.Print operand) facts m h = action_named (effects.Print operand) facts m h
-  unwound_named (effects.Forget operand) facts m h = action_named (effects.Forget operand) facts m h
   unwound_named (effects.Free box) facts m h = h
-  unwound_named (effects.Compute to operator left right) facts m h =
-      action_named (effects.Compute to operator left right) facts m h
-  unwound_named (effects.Negate to operand) facts m h = action_named (effects.Negate to operand) facts m h
-  unwound_named (effects.Call to callee args) facts m h = action_named (effects.Call to callee args) facts m h
-  unwound_named (effects.CallVirtual to trait_no method args) facts m h =
-      action_named (effects.CallVirtual to trait_no method args) facts m h
-  unwound_named (effects.Ask to) facts m h = action_named (effects.Ask to) facts m h
+  unwound_named other facts m h = action_named other facts m h
 
   pub taken_named : (test : Test) (facts : Facts) → AllNamed facts →
       AllNamed (checks.after_taken items local_ty is_target test facts)

@@ -42,6 +42,7 @@ use Rattle.soundness_values.proofs.Leaving.{Shown}
 use Rattle.soundness.proofs.PassPlacesCalm.{watching, watching_none, Calm, safe, settled}
 use Rattle.soundness.proofs.PassPlacesEffects.{q, Settled, settled_safe}
 use Rattle.soundness.proofs.PassPlacesMarks.{give_places}
+use Rattle.soundness.proofs.PassPlacesInside as pass_places_inside
 use Rattle.soundness.proofs.PassPlacesForms as pass
 use Rattle.soundness.proofs.PassPlacesMatch as matching
 use Rattle.soundness.proofs.PassPlacesNodes.{Asked}
@@ -184,7 +185,7 @@ module _ (items : ItemTable) (body : BodyTree) (also : Also) (known : Told items
     block_kept (node id at ty by form) fr e g t l =
         pass.form_kept items body also known fuel bs asked form (
           at,
-          pass.lt items body also known fuel bs asked _ _ _
+          pass_places_inside.lt items body also known fuel bs asked _ _ _
               _ fr,
         ) (beside id x) (scope.scoped_beside items body bs id x scoped) (scope.stood_beside items body bs x (node
         id at ty by form) (nodes_in form) g) id ty by t.1 (λ p. absurd (no_place form e p)) (λ p m. absurd (no_place
@@ -202,7 +203,7 @@ module _ (items : ItemTable) (body : BodyTree) (also : Also) (known : Told items
         )
       where
         found : (id : ℕ) → is_among id (id ∷ x.outside) ≡ true
-        found id = pass.itself items body also known fuel bs asked id x.outside
+        found id = pass_places_inside.itself items body also known fuel bs asked id x.outside
 
         no_loop : (loop : ℕ) → is_among loop [] ≡ true → DestIn (id ∷ x.outside) (loop_destination loop [])
         no_loop loop i = absurd (false≢true i)

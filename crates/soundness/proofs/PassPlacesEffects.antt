@@ -5,12 +5,12 @@ use Rattle.std.proofs.Common.{◌≡◌, ℕ, ◌&&◌, Bool, true, false, List,
 use Rattle.std.proofs.lemmas.Bool.{false≢true}
 use Rattle.mir_ty.specs.ItemTable.{ItemTable}
 use Rattle.store_model.specs.Abstract.Effects as free
-use Rattle.store_model.specs.Abstract.Effects.{AbstractState, abstract_effects, acted_on, never_at}
+use Rattle.store_model.specs.Abstract.Effects.{AbstractState, acted_on, never_at}
 use Rattle.store_model.specs.Effects as effects
-use Rattle.store_model.specs.Effects.{EffectSite, Operand, Action, Test, Mode, Unreachable, Infeasible, NoChoice, Out, Go, Unwind, Halts, Choice, Yes, No, Neither, Effects, halting_if, stores_where}
+use Rattle.store_model.specs.Effects.{Action, Unreachable, Infeasible, Out, Go, Unwind, Halts, Choice, Yes, No, Neither, Effects, halting_if, stores_where}
 use Rattle.typed_tree.specs.Tree.{BodyTree}
 use Rattle.src_meaning.specs.Locals.Effects as locals_of
-use Rattle.src_meaning.specs.Locals.Effects.{action_at, test_at, place_at}
+use Rattle.src_meaning.specs.Locals.Effects.{action_at, test_at}
 use Rattle.src_meaning.specs.Locals.OfBody.{local_of, local_ty}
 use Rattle.src_meaning.specs.Scopes.{entry_site}
 use Rattle.soundness_values.proofs.AlsoTests.{Also}
@@ -104,26 +104,11 @@ module _ (items : ItemTable) (body : BodyTree) (also : Also) where
       places_act items body v.facts v.free.cells (action_at L action) ≡ true
   no_place (effects.Put to (effects.Copied site)) v t = absurd (false≢true t)
   no_place (effects.Put to (effects.Moved site)) v t = absurd (false≢true t)
-  no_place (effects.Put to (effects.Number value kind)) v t = refl
-  no_place (effects.Put to (effects.Truth value)) v t = refl
-  no_place (effects.Put to effects.UnitValue) v t = refl
   no_place (effects.Compare to operator (effects.Moved site) right) v t = refl
   no_place (effects.Compare to operator left right) v t = absurd (false≢true t)
-  no_place (effects.Not to operand) v t = refl
-  no_place (effects.Build to kind parts) v t = refl
-  no_place (effects.NewBox to content) v t = refl
-  no_place (effects.Unsize to trait_no operand) v t = refl
   no_place (effects.Borrow to unique base) v t = absurd (false≢true t)
   no_place (effects.Touch base) v t = absurd (false≢true t)
-  no_place (effects.Print operand) v t = refl
-  no_place (effects.Forget operand) v t = refl
-  no_place (effects.Free box) v t = refl
-  no_place (effects.Compute to operator left right) v t = refl
-  no_place (effects.Negate to operand) v t = refl
-  no_place (effects.Bounds index length) v t = refl
-  no_place (effects.Call to callee args) v t = refl
-  no_place (effects.CallVirtual to trait_no method args) v t = refl
-  no_place (effects.Ask to) v t = refl
+  no_place other v t = refl
 
   answered : (mark : Option ℕ) (v : V) (taken declined : Facts) (o : Choice AbstractState) → (mark ≡ Some 5 → ⊥) →
       ChosenSo items (local_ty items body) o → taken.refilled ≡ None → declined.refilled ≡ None →

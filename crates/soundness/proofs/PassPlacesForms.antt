@@ -1,8 +1,7 @@
 -- The pass over the forms for the half on places, in guards and outside: no node fails for want of what is known of a
 -- place, and none leaves a place waiting. A place is known where it has been reached. One line a form.
-use Rattle.std.proofs.Common.{◌≡◌, inl, inr, ℕ, ◌==◌, ◌&&◌, ◌||◌, not, Bool, if◌then◌else◌, true, false, List, [], ◌∷◌, ◌++◌, length, Option, Some, None, slice_get, refl, ap, sym, ◌∙◌, subst}
+use Rattle.std.proofs.Common.{◌≡◌, inl, inr, ℕ, ◌==◌, ◌&&◌, not, true, false, List, [], ◌∷◌, ◌++◌, length, Option, Some, None, slice_get, refl, ap, sym, ◌∙◌, subst}
 use Rattle.std.proofs.lemmas.Bool.{false≢true}
-use Rattle.std.proofs.lemmas.Bool.Decides.{Decides-eqb}
 use Rattle.mir_base.specs.declared.place_in_text.Pos.{Pos}
 use Rattle.mir_base.specs.declared.trace.Why.{Why}
 use Rattle.mir_ty.specs.declared.ty.TyId.{TyId}
@@ -11,22 +10,22 @@ use Rattle.store_model.specs.Effects as effects
 use Rattle.store_model.specs.Effects.{OfTuple, OfArray, OfVariant, OfClosure, Effects}
 use Rattle.store_model.specs.Places.Place.{Place, whole_local, is_reference}
 use Rattle.typed_tree.specs.declared.node.Use.{Use}
-use Rattle.typed_tree.specs.Nodes.{number_of, nodes_of, nodes_in, nodes_among, nodes_of_fields, nodes_if_any}
+use Rattle.typed_tree.specs.Nodes.{nodes_of, nodes_in, nodes_among, nodes_of_fields, nodes_if_any}
 use Rattle.typed_tree.specs.Tree as tree
 use Rattle.typed_tree.specs.Tree.{Node, node, Form, Nodes, no_node, a_node, Fields, no_field, a_field, MaybeNode, absent, present, BodyTree}
 use Rattle.src_meaning.specs.Evaluation as evaluation
 use Rattle.src_meaning.specs.Evaluation.{meanings, fields_of, meaning_if_any, values_of, in_number_order, to_own_key}
 use Rattle.src_meaning.specs.Forms as forms
-use Rattle.src_meaning.specs.Forms.{Destination, Into, coerced, LoopsAndGuards, Meaning, in_loop, loop_destination, moved, all_moved, is_never, place_of, Coerced}
+use Rattle.src_meaning.specs.Forms.{Destination, Into, coerced, LoopsAndGuards, Meaning, in_loop, loop_destination, moved, all_moved, is_never}
 use Rattle.src_meaning.specs.Locals.OfBody.{cells, reached_cells, cells_in, all_cells, cells_of_fields, cells_if_any}
 use Rattle.src_meaning.specs.Scopes.{Entry, Breaks, Returns, Does}
 use Rattle.src_meaning.specs.Shape.{NodeHead, head, Shape, shape_of, kind_of, moves}
-use Rattle.well_typed.specs.Claim.{Claim, Holds, fact, both, nothing}
+use Rattle.well_typed.specs.Claim.{Claim, Holds, fact, both}
 use Rattle.well_typed.specs.Names.{are_distinct_numbers}
 use Rattle.well_typed.specs.Nodes as typing
 use Rattle.well_typed.specs.Patterns as patterns
 use Rattle.well_typed.specs.Patterns.{Matched, entries_of}
-use Rattle.well_typed.specs.Places.{LoopAround, Context, loop_with, ty_of, is_place, borrow_by, may_move_by, Standing, Taken, Wanted, Passed, Base, Used, Stored, is_borrow, form_of}
+use Rattle.well_typed.specs.Places.{LoopAround, Context, loop_with, ty_of, is_place, borrow_by, may_move_by, Standing, Taken, Wanted, Passed, Base, Used, Stored}
 use Rattle.well_typed.specs.Types as types
 use Rattle.soundness_values.proofs.AlsoTests.{Also}
 use Rattle.soundness_values.proofs.Checked.{Checking}
@@ -48,8 +47,6 @@ use Rattle.soundness_cells.proofs.PassListed.{Lists}
 use Rattle.soundness.proofs.PassMadeForms as made
 use Rattle.soundness.proofs.PassMovable.{Movable}
 use Rattle.soundness_cells.proofs.PassNumbers.{numbered_left, numbered_right, rises_apart}
-use Rattle.soundness.proofs.PassAloneRun.{BorrowAt}
-use Rattle.soundness_frame.proofs.PassFrameBodies.{any_place}
 use Rattle.soundness.proofs.PassPlacesCalm.{watching, Calm, safe, none_so}
 use Rattle.soundness.proofs.PassPlacesLooked.{Looked, looked_left, looked_right, looked_beside, looked_so}
 use Rattle.soundness.proofs.PassPlacesMatch as matching
@@ -57,19 +54,18 @@ use Rattle.soundness.proofs.PassPlacesNodes as at_places
 use Rattle.soundness.proofs.PassPlacesNodes.{M, Of, P, PF, Outside, Es, Rs, AllE, Asked, Made, Own}
 use Rattle.soundness.proofs.PassPlacesParts as parts
 use Rattle.soundness.proofs.PassPlacesReach as reach
-use Rattle.soundness.proofs.PassPlacesReach.{Kept, Keeps, After, Brings, KeepsIf, Led}
+use Rattle.soundness.proofs.PassPlacesReach.{Kept, Keeps, Brings, KeepsIf, Led}
 use Rattle.soundness.proofs.PassPlacesRules as rules
-use Rattle.soundness.proofs.PassPlacesRules.{NoValue}
 use Rattle.soundness.proofs.PassPlacesScope as scope
 use Rattle.soundness.proofs.PassPlacesScope.{Stood, Bindings}
 use Rattle.soundness_cells.proofs.PassRefilled.{not_mark}
-use Rattle.soundness_frame.proofs.PassTold.{ids, IsValue, IfRoot, named_loop, no_append}
-use Rattle.soundness_frame.proofs.PassToldPlaces.{AllPermit, permit_left, permit_right, is_alias}
-use Rattle.soundness_frame.proofs.PassToldParts.{argument_told, receiver_told}
+use Rattle.soundness_frame.proofs.PassTold.{ids, IsValue, named_loop}
 use Rattle.typing_rules.specs.Accesses as accesses
-use Rattle.typing_rules.specs.Accesses.{Accessed, CollectedAccesses, ◌⊕◌, root_of}
-use Rattle.soundness_frame.proofs.PassWithin.{Outer, is_among, DestIn, also_among, further_in}
+use Rattle.typing_rules.specs.Accesses.{CollectedAccesses, ◌⊕◌}
+use Rattle.soundness_frame.proofs.PassWithin.{Outer, DestIn, also_among, further_in}
 use Rattle.soundness_values.proofs.PlaceTypes.{some_holds}
+use Rattle.soundness.proofs.PassPlacesInside as pass_places_inside
+use Rattle.soundness.proofs.PassPlacesInside.{lt, rt, lo, hi, unbound, inside_free, argument_free, receiver_free, home, itself, into_in, branch_in, coerced_in, inner, looped, statement_out, behind_out, behind_in, goes_home}
 
 module _ (items : ItemTable) (body : BodyTree) (also : Also) (told : Told items) (fuel : ℕ)
     (bs : Bindings items body) (asked : Asked items body also told fuel bs) where
@@ -133,146 +129,23 @@ module _ (items : ItemTable) (body : BodyTree) (also : Also) (told : Told items)
   abbrev here_right : (x : Standpoint) (a b : List Node) → Stood items body bs x (a ++ b) → Stood items body bs x b
   here_right = scope.stood_right items body bs
 
-  -- nothing conflicts in a node, nor inside one, nor in a form
   abbrev Fine : CollectedAccesses → Type 0
   Fine = scope.Free items body bs
 
-  abbrev pub Free : Node → Type 0
+  abbrev Free : Node → Type 0
   Free n = Fine (accesses.told bs.outer n)
 
   abbrev FreeInside : Node → Type 0
   FreeInside n = Fine (accesses.inside bs.outer n)
 
-  abbrev pub FreeIn : Form → Type 0
+  abbrev FreeIn : Form → Type 0
   FreeIn form = (at : Pos) × Fine (accesses.told_form bs.outer at form)
-
-  abbrev Permitted : List Accessed → Type 0
-  Permitted = AllPermit items (IfRoot items any_place (scope.Of items body)) bs.outer
-
-  -- the first and the second of what is told
-  pub lt : (as_ bs_ : List Accessed) (cs ds : List Pos) → Permitted (as_ ++ bs_) × (cs ++ ds ≡ []) →
-      Permitted as_ × (cs ≡ [])
-  lt as_ bs_ cs ds t = (
-    permit_left items (IfRoot items any_place (scope.Of items body)) bs.outer as_ bs_ t.0,
-    (no_append cs ds t.1).0,
-  )
-
-  pub rt : (as_ bs_ : List Accessed) (cs ds : List Pos) → Permitted (as_ ++ bs_) × (cs ++ ds ≡ []) →
-      Permitted bs_ × (ds ≡ [])
-  rt as_ bs_ cs ds t = (
-    permit_right items (IfRoot items any_place (scope.Of items body)) bs.outer as_ bs_ t.0,
-    (no_append cs ds t.1).1,
-  )
 
   abbrev T : Node → CollectedAccesses
   T = accesses.told bs.outer
 
-  lo : (a c : CollectedAccesses) → Fine (a ⊕ c) → Fine a
-  lo a c t = lt a.accesses c.accesses a.conflicts c.conflicts t
-
-  hi : (a c : CollectedAccesses) → Fine (a ⊕ c) → Fine c
-  hi a c t = rt a.accesses c.accesses a.conflicts c.conflicts t
-
-  -- what is assigned is no binding of a guard
-  unbound : (target value : Node) (at : Pos) → Fine (accesses.told_form bs.outer at (tree.Assign target value)) →
-      (key : ℕ) → root_of target ≡ Some key → is_alias bs.outer key ≡ true → ⊥
-  unbound target value at t key same u =
-      (rt inner.accesses own.accesses inner.conflicts []
-      (rt (accesses.told bs.outer value).accesses (inner.accesses ++ own.accesses)
-      (accesses.told bs.outer value).conflicts (inner.conflicts ++ []) t)).0.0.replaced key refl same u
-    where
-      inner : CollectedAccesses
-      inner = accesses.inside bs.outer target
-
-      own : CollectedAccesses
-      own = accesses.one accesses.Stores (accesses.place_of bs.outer target) (root_of target) at
-
-  inside_free : (n : Node) → Free n → FreeInside n
-  inside_free (node id at ty by form) e = lt _ _ _ _ e
-
-  argument_free : (n : Node) → Fine (accesses.argument bs.outer n).told → Free n
-  argument_free n e = subst Fine (argument_told n bs.outer) e
-
-  receiver_free : (n : Node) → Fine (accesses.receiver_of bs.outer n (accesses.told bs.outer n)).told → Free n
-  receiver_free n e = subst Fine (receiver_told n bs.outer (accesses.told bs.outer n)) e
-
-  -- where the value of a node goes: into a cell around, or its own; a borrow goes to its own
-  abbrev Home : Form → ℕ → Standpoint → Destination → Type 0
-  Home form id x to = (DestIn x.outside to × (is_among id x.outside ≡ true))
-      × (is_borrow form ≡ true → (to ≡ Into id) × BorrowAt items body also id)
-
-  abbrev pub Goes : Form → ℕ → Standpoint → Meaning V → Type 0
-  Goes form id x m = (around : LoopsAndGuards) → Out (ids x) around → (own : Bool) (to : Destination) →
-      Home form id x to → Keeps items body also bs.aliases (m.evaluate around own to)
-
-  home : (b : Bool) (id : ℕ) (to : Destination) → to ≡ Into id → to_own_key b id to ≡ Into id
-  home true id to e = refl
-  home false id to e = e
-
-  pub itself : (id : ℕ) (keys : List ℕ) → is_among id (id ∷ keys) ≡ true
-  itself id keys = ap (λ b. b || is_among id keys) ((Decides-eqb id id).1 refl)
-
-  -- its own cell, or that of the whole
-  into_in : (keys : List ℕ) (b : Bool) (id : ℕ) (to : Destination) → DestIn keys to × (is_among id keys ≡ true) →
-      DestIn keys (to_own_key b id to)
-  into_in keys true id to d = d.1
-  into_in keys false id to d = d.0
-
-  branch_in : (n : Node) (keys : List ℕ) (b : Bool) (id : ℕ) (to : Destination) →
-      DestIn keys to × (is_among id keys ≡ true) → DestIn ((N n).head.id ∷ keys) (to_own_key b id to)
-  branch_in n keys b id to d = further_in (N n).head.id keys (to_own_key b id to) (into_in keys b id to d)
-
-  coerced_in : (key trait_no : ℕ) (keys : List ℕ) (to : Destination) → DestIn keys to →
-      DestIn (key ∷ keys) (coerced key trait_no to)
-  coerced_in key trait_no keys (Into to) d = (itself key keys, also_among key keys to d)
-  coerced_in key trait_no keys (Coerced other another to) d = (itself key keys, also_among key keys to d.1)
-
-  inner : (id : ℕ) (x : Standpoint) (around : LoopsAndGuards) → Out (ids x) around → Out (ids (beside id x)) around
-  inner id x around na = (
-    na.0,
-    (
-      further_in id x.outside around.answer na.1.0,
-      λ loop i. further_in id x.outside (loop_destination loop around.loops) (na.1.1 loop i),
-    ),
-  )
-
-  looped : (a : LoopAround) (x : Standpoint) (to : Destination) (around : LoopsAndGuards) → Out (ids x) around →
-      DestIn x.outside to → Out (ids (in_a_loop a x)) (in_loop a.loop to around)
-  looped a x to around na d = (na.0, (na.1.0, λ loop i. keyed loop (loop == a.loop) i))
-    where
-      keyed : (loop : ℕ) (b : Bool) → (b || is_among loop (ids x).loops) ≡ true →
-          DestIn x.outside (if b then to else loop_destination loop around.loops)
-      keyed loop true i = d
-      keyed loop false i = na.1.1 loop i
-
-  -- names change nothing of cells and loops around
-  statement_out : (form : Form) (x : Standpoint) (around : LoopsAndGuards) → Out (ids x) around →
-      Out (ids (with_names (typing.entries_in form) x)) around
-  statement_out form x around na = na
-
-  behind_out : (ns : Nodes) (x : Standpoint) (around : LoopsAndGuards) → Out (ids x) around →
-      Out (ids (behind x ns)) around
-  behind_out no_node x around na = na
-  behind_out (a_node (node id at ty by form) rest) x around na =
-      behind_out rest (with_names (typing.entries_in form) x) around na
-
-  behind_in : (ns : Nodes) (x : Standpoint) (to : Destination) → DestIn x.outside to → DestIn (behind x ns).outside to
-  behind_in no_node x to d = d
-  behind_in (a_node (node id at ty by form) rest) x to d = behind_in rest (with_names (typing.entries_in form) x) to d
-
-  goes_home : (n : Node) (x : Standpoint) → Stood items body bs x (nodes_of n) →
-      Home (form_of n) (number_of n) (beside (number_of n) x) (Into (N n).head.id)
-  goes_home (node id at ty by form) x g = (
-    (
-      subst (λ z. is_among z (id ∷ x.outside) ≡ true) (sym (number_is items r fuel (node id at ty by form)))
-          (itself id x.outside),
-      itself id x.outside,
-    ),
-    λ b. (
-      ap Into (number_is items r fuel (node id at ty by form)),
-      (node id at ty by form, (refl, (b, g.here.all (node id at ty by form) (inl refl)))),
-    ),
-  )
+  abbrev Goes : Form → ℕ → Standpoint → Meaning V → Type 0
+  Goes = pass_places_inside.Goes items body also told fuel bs asked
 
   -- ---- the forms
 
@@ -282,15 +155,15 @@ module _ (items : ItemTable) (body : BodyTree) (also : Also) (told : Told items)
         Holds (typing.typed (K x) standing n) → H (cells items false n) → E (ids x) (N n)
     node_kept (node id at ty by form) fr x s g standing v h k around na own to d =
         let value = at_places.handed_value items body also told fuel bs standing v in
-        form_kept form (at, lt _ _ _ _ fr) (beside id x) (scope.scoped_beside items body bs id x s)
+        form_kept form (at, lt items body also told fuel bs asked _ _ _ _ fr) (beside id x) (scope.scoped_beside items body bs id x s)
         (scope.stood_beside items body bs x (node id at ty by form) (nodes_in form) g) id ty by h.1
         (λ p. at_places.plain_of items body also told fuel bs ty (stand.place_alone items body told fuel x standing ty
         by form (at_places.valued items body also told fuel bs standing value) h.0 p))
         (λ p m. at_places.moved_use items body also told fuel bs x standing ty by form value h.0 p m)
-        (cells_of.inside items body false (node id at ty by form) k) around (inner id x around na) own to (
+        (cells_of.inside items body false (node id at ty by form) k) around (inner items body also told fuel bs asked id x around na) own to (
           (
             subst (λ z. DestIn (z ∷ x.outside) to) (number_is items r fuel (node id at ty by form)) d,
-            itself id
+            itself items body also told fuel bs asked id
                 x.outside,
           ),
           λ b. absurd (false≢true (sym (at_places.handed_loose items body also told fuel bs x standing ty
@@ -301,13 +174,13 @@ module _ (items : ItemTable) (body : BodyTree) (also : Also) (told : Told items)
         (standing : Standing) → IsValue standing → Holds (typing.typed (K x) standing n) → H (cells items true n) →
         Own_ (ids x) (N n)
     own_kept (node id at ty by form) fr x s g standing v h k around na own =
-        form_kept form (at, lt _ _ _ _ fr) (beside id x) (scope.scoped_beside items body bs id x s)
+        form_kept form (at, lt items body also told fuel bs asked _ _ _ _ fr) (beside id x) (scope.scoped_beside items body bs id x s)
         (scope.stood_beside items body bs x (node id at ty by form) (nodes_in form) g) id ty by h.1
         (λ p. at_places.plain_of items body also told fuel bs ty (stand.place_alone items body told fuel x standing ty
         by form (at_places.valued items body also told fuel bs standing v) h.0 p))
         (λ p m. at_places.moved_use items body also told fuel bs x standing ty by form v h.0 p m)
-        (cells_of.inside items body true (node id at ty by form) k) around (inner id x around na) own
-        (Into (F form id ty by).head.id) (goes_home (node id at ty by form) x g)
+        (cells_of.inside items body true (node id at ty by form) k) around (inner items body also told fuel bs asked id x around na) own
+        (Into (F form id ty by).head.id) (goes_home items body also told fuel bs asked (node id at ty by form) x g)
 
     pub node_reached : (n : Node) → FreeInside n → (x : Standpoint) → Scoped items body x → Stood items body bs x
         (nodes_of n) → (standing : Standing) → Holds (typing.typed (K x) standing n) → H (reached_cells items n) →
@@ -316,7 +189,7 @@ module _ (items : ItemTable) (body : BodyTree) (also : Also) (told : Told items)
         at_nodes.either_reached items body told fuel (is_place form) form refl
         (λ p around na. place_reached form (at, fr) (beside id x) (scope.scoped_beside items body bs id x s)
         (scope.stood_beside items body bs x (node id at ty by form) (nodes_in form) g) id ty by h.1 p
-        (cells_of.reached_inside items body (node id at ty by form) k) around (inner id x around na))
+        (cells_of.reached_inside items body (node id at ty by form) k) around (inner items body also told fuel bs asked id x around na))
         (λ p around na S v c. rules.always_brings items r (not_mark 5) (Calm items body also bs.aliases) (safe items
         body also bs.aliases) (Led items body also bs.aliases (Pn (node id at ty by form))) ((F form id ty by).reach
         around S v) (λ w. subst (λ z. Led items body also bs.aliases z w)
@@ -328,8 +201,8 @@ module _ (items : ItemTable) (body : BodyTree) (also : Also) (told : Told items)
         (form_kept form (at, fr) (beside id x) (scope.scoped_beside items body bs id x s)
         (scope.stood_beside items body bs x (node id at ty by form) (nodes_in form) g) id ty by h.1
         (λ e. absurd (false≢true (sym p ∙ e))) (λ e m. absurd (false≢true (sym p ∙ e)))
-        (cells_of.reached_inside items body (node id at ty by form) k) around (inner id x around na) false
-        (Into (F form id ty by).head.id) (goes_home (node id at ty by form) x g))
+        (cells_of.reached_inside items body (node id at ty by form) k) around (inner items body also told fuel bs asked id x around na) false
+        (Into (F form id ty by).head.id) (goes_home items body also told fuel bs asked (node id at ty by form) x g))
         S v c)))
 
     place_reached : (form : Form) → FreeIn form → (x : Standpoint) → Scoped items body x → Stood items body bs x
@@ -343,9 +216,9 @@ module _ (items : ItemTable) (body : BodyTree) (also : Also) (told : Told items)
         parts.field_reached items body also told fuel bs asked (ids x) base part id ty by (node_reached base fr.1 x s
         g Base h.0 k)
     place_reached (tree.Index base index count) fr x s g id ty by h p k = parts.index_reached items body also told
-        fuel bs asked base index (lt _ _ _ _ (rt _ _ _ _ fr.1)) count x s g id ty by h k (node_reached base (lt _ _ _
+        fuel bs asked base index (lt items body also told fuel bs asked _ _ _ _ (rt items body also told fuel bs asked _ _ _ _ fr.1)) count x s g id ty by h k (node_reached base (lt items body also told fuel bs asked _ _ _
         _ fr.1) x s (here_left x (nodes_of base) (nodes_of index) g) Base h.0 (left (reached_cells items base) (cells
-        items true index) k)) (own_kept index (lt _ _ _ _ (rt _ _ _ _ fr.1)) x s (here_right x (nodes_of base)
+        items true index) k)) (own_kept index (lt items body also told fuel bs asked _ _ _ _ (rt items body also told fuel bs asked _ _ _ _ fr.1)) x s (here_right x (nodes_of base)
         (nodes_of index) g) Taken tt h.1.0 (right (reached_cells items base) (cells items true index) k))
     place_reached (tree.Deref base) fr x s g id ty by h p k =
         parts.deref_reached items body also told fuel bs asked (ids x) base id ty by (node_reached base fr.1 x s g
@@ -379,10 +252,10 @@ module _ (items : ItemTable) (body : BodyTree) (also : Also) (told : Told items)
         base fr.1 x s g Base h.0 k)) around na own to
     form_kept (tree.Index base index count) fr x s g id ty by h pl mv k around na own to go =
         parts.used_with items body also told fuel bs asked (tree.Index base index count) x s _ g id ty by h refl (pl
-        refl) (mv refl) k (parts.index_reached items body also told fuel bs asked base index (lt _ _ _ _ (rt _ _ _ _
-        fr.1)) count x s g id ty by h k (node_reached base (lt _ _ _ _ fr.1) x s (here_left x (nodes_of base)
+        refl) (mv refl) k (parts.index_reached items body also told fuel bs asked base index (lt items body also told fuel bs asked _ _ _ _ (rt items body also told fuel bs asked _ _ _ _
+        fr.1)) count x s g id ty by h k (node_reached base (lt items body also told fuel bs asked _ _ _ _ fr.1) x s (here_left x (nodes_of base)
         (nodes_of index) g) Base h.0 (left (reached_cells items base) (cells items true index) k))
-        (own_kept index (lt _ _ _ _ (rt _ _ _ _ fr.1)) x s (here_right x (nodes_of base) (nodes_of index) g) Taken tt
+        (own_kept index (lt items body also told fuel bs asked _ _ _ _ (rt items body also told fuel bs asked _ _ _ _ fr.1)) x s (here_right x (nodes_of base) (nodes_of index) g) Taken tt
         h.1.0 (right (reached_cells items base) (cells items true index) k))) around na own to
     form_kept (tree.Deref base) fr x s g id ty by h pl mv k around na own to go =
         parts.used_with items body also told fuel bs asked (tree.Deref base) x s _ g id ty by h refl (pl refl) (mv
@@ -402,41 +275,41 @@ module _ (items : ItemTable) (body : BodyTree) (also : Also) (told : Told items)
         items body also told fuel bs (ids x) (head id ty by) (shape_of items (tree.Arithmetic operator a b) (head id
         ty by)) (N a ∷ N b ∷ []) (λ site. effects.Compute site operator (moved id (N a).head.id) (moved id (N
         b).head.id)) (parts.more_of items body also told fuel bs asked (ids x) (N a) (N b ∷ [])
-        (own_kept a (lt _ _ _ _ fr.1) x s (here_left x (nodes_of a) (nodes_of b) g) (Wanted ty) tt h.0
+        (own_kept a (lt items body also told fuel bs asked _ _ _ _ fr.1) x s (here_left x (nodes_of a) (nodes_of b) g) (Wanted ty) tt h.0
         (left (cells items true a) (cells items true b) k))
-        (parts.one_of items body also told fuel bs asked (ids x) (N b) (own_kept b (rt _ _ _ _ fr.1) x s (here_right x
+        (parts.one_of items body also told fuel bs asked (ids x) (N b) (own_kept b (rt items body also told fuel bs asked _ _ _ _ fr.1) x s (here_right x
         (nodes_of a) (nodes_of b) g) (Wanted ty) tt h.1.0 (right (cells items true a) (cells items true b) k))))
         (λ site. refl) around na own to
     form_kept (tree.Comparison operator a b) fr x s g id ty by h pl mv k around na own to go = at_places.operands_kept
         items body also told fuel bs (ids x) (head id ty by) (shape_of items (tree.Comparison operator a b) (head id
         ty by)) (N a ∷ N b ∷ []) (λ site. effects.Compare site operator (moved id (N a).head.id) (moved id (N
         b).head.id)) (parts.more_of items body also told fuel bs asked (ids x) (N a) (N b ∷ [])
-        (own_kept a (lt _ _ _ _ fr.1) x s (here_left x (nodes_of a) (nodes_of b) g) Taken tt h.0
+        (own_kept a (lt items body also told fuel bs asked _ _ _ _ fr.1) x s (here_left x (nodes_of a) (nodes_of b) g) Taken tt h.0
         (left (cells items true a) (cells items true b) k))
-        (parts.one_of items body also told fuel bs asked (ids x) (N b) (own_kept b (rt _ _ _ _ fr.1) x s (here_right x
+        (parts.one_of items body also told fuel bs asked (ids x) (N b) (own_kept b (rt items body also told fuel bs asked _ _ _ _ fr.1) x s (here_right x
         (nodes_of a) (nodes_of b) g) Taken tt h.1.0 (right (cells items true a) (cells items true b) k)))) (λ site.
         refl) around na own to
     form_kept (tree.And a b) fr x s g id ty by h pl mv k around na own to go =
-        let ea = own_kept a (lt _ _ _ _ fr.1) x s (here_left x (nodes_of a) (nodes_of b) g) Taken tt h.0
+        let ea = own_kept a (lt items body also told fuel bs asked _ _ _ _ fr.1) x s (here_left x (nodes_of a) (nodes_of b) g) Taken tt h.0
         (left (cells items true a) (cells items false b) k) in
-        let eb = node_kept b (rt _ _ _ _ fr.1) x s (here_right x (nodes_of a) (nodes_of b) g) Taken tt h.1.0
+        let eb = node_kept b (rt items body also told fuel bs asked _ _ _ _ fr.1) x s (here_right x (nodes_of a) (nodes_of b) g) Taken tt h.1.0
         (right (cells items true a) (cells items false b) k) in
         let into = to_own_key (is_never items ty) id to in
         parts.own_of items body also told fuel bs asked (head id ty by) own _ (parts.condition_of items body also told
         fuel bs asked (ids x) (N a) ea around na (forms.alone items r around (N b) into) (evaluation.shortcut items r
         fuel (head id ty by) false into) (parts.alone_of items body also told fuel bs asked (ids x) (N b) eb around na
-        into (branch_in b x.outside (is_never items ty) id to go.0)) (parts.truth_of items body also told fuel bs
+        into (branch_in items body also told fuel bs asked b x.outside (is_never items ty) id to go.0)) (parts.truth_of items body also told fuel bs
         asked (head id ty by) false into))
     form_kept (tree.Or a b) fr x s g id ty by h pl mv k around na own to go =
-        let ea = own_kept a (lt _ _ _ _ fr.1) x s (here_left x (nodes_of a) (nodes_of b) g) Taken tt h.0
+        let ea = own_kept a (lt items body also told fuel bs asked _ _ _ _ fr.1) x s (here_left x (nodes_of a) (nodes_of b) g) Taken tt h.0
         (left (cells items true a) (cells items false b) k) in
-        let eb = node_kept b (rt _ _ _ _ fr.1) x s (here_right x (nodes_of a) (nodes_of b) g) Taken tt h.1.0
+        let eb = node_kept b (rt items body also told fuel bs asked _ _ _ _ fr.1) x s (here_right x (nodes_of a) (nodes_of b) g) Taken tt h.1.0
         (right (cells items true a) (cells items false b) k) in
         let into = to_own_key (is_never items ty) id to in
         parts.own_of items body also told fuel bs asked (head id ty by) own _ (parts.condition_of items body also told
         fuel bs asked (ids x) (N a) ea around na (evaluation.shortcut items r fuel (head id ty by) true into)
         (forms.alone items r around (N b) into) (parts.truth_of items body also told fuel bs asked (head id ty by)
-        true into) (parts.alone_of items body also told fuel bs asked (ids x) (N b) eb around na into (branch_in b
+        true into) (parts.alone_of items body also told fuel bs asked (ids x) (N b) eb around na into (branch_in items body also told fuel bs asked b
         x.outside (is_never items ty) id to go.0)))
     form_kept (tree.Assign target value) fr x s g id ty by h pl mv k around na own to go =
         let kp = left (reached_cells items target) (cells items true value) k in
@@ -449,17 +322,17 @@ module _ (items : ItemTable) (body : BodyTree) (also : Also) (told : Told items)
         target) (N value) around own (to_own_key (is_never items ty) id to)
         (λ T w c. parts.made_evaluated items body also told fuel bs asked (is_never items (ty_of value))
         ((N value).evaluate around false (Into (N value).head.id) T w)
-        (own_kept value (lt _ _ _ _ fr.1) x s gv (Wanted (ty_of target)) tt h.1.1.0 kv around na false T w c)
+        (own_kept value (lt items body also told fuel bs asked _ _ _ _ fr.1) x s gv (Wanted (ty_of target)) tt h.1.1.0 kv around na false T w c)
         (λ never. none_so items body also bs.aliases fuel value around false (Into (N value).head.id) T w
         (made.never_ends items body also told fuel value x (Wanted (ty_of target)) h.1.1.0
         (cells_of.fewer items body value kv) never around false (Into (N value).head.id) T w)))
         (subst (λ z. Brings items body also bs.aliases (Led items body also bs.aliases z) ((N target).reach around))
-        (sym at_) (node_reached target (lt _ _ _ _ (rt _ _ _ _ fr.1)) x s gp Stored h.0 kp around na))
+        (sym at_) (node_reached target (lt items body also told fuel bs asked _ _ _ _ (rt items body also told fuel bs asked _ _ _ _ fr.1)) x s gp Stored h.0 kp around na))
         (λ made w l. subst (λ z. Rattle.soundness.proofs.PassKnownStores.Replaced items body also w.facts z
         (N value).head.id) (sym at_) (subst (λ z. Rattle.soundness.proofs.PassKnownStores.Replaced items body also
         w.facts (Pn target) z) (sym (number_is items r fuel value))
         (at_places.replaced_so items body also told fuel bs target value x h.0 so.1 h.1.0 so.0 h.1.1.0 s g kp kv made
-        (λ key same u. unbound target value fr.0 fr.1 key same u) w.facts
+        (λ key same u. unbound items body also told fuel bs asked target value fr.0 fr.1 key same u) w.facts
         (subst (λ z. Led items body also bs.aliases z w) at_ l))))
         (λ e. subst (λ z. Rattle.soundness_values.proofs.Checks.needs items (Rattle.src_meaning.specs.Locals.OfBody.local_ty
         items body) (Rattle.soundness_values.proofs.CheckedBodies.is_reference_param items body)
@@ -471,7 +344,7 @@ module _ (items : ItemTable) (body : BodyTree) (also : Also) (told : Told items)
         (λ sig. both (fact (types.is_same ty sig.result)) (typing.arguments (K x) sig.params args)) h.0 in
         at_places.operands_kept items body also told fuel bs (ids x) (head id ty by)
         (shape_of items (tree.Call callee args) (head id ty by)) (Ns args)
-        (λ site. effects.Call site callee (all_moved id (Ns args))) (args_kept t.0.params args (lt _ _ _ _ fr.1) x s g
+        (λ site. effects.Call site callee (all_moved id (Ns args))) (args_kept t.0.params args (lt items body also told fuel bs asked _ _ _ _ fr.1) x s g
         t.1.1.1 k) (λ site. refl) around na own to
     form_kept (tree.MethodCall callee receiver args) fr x s g id ty by h pl mv k around na own to go =
         let t = some_holds (slice_get items.bodies callee) (λ sig. both (fact (types.is_same ty sig.result))
@@ -481,10 +354,10 @@ module _ (items : ItemTable) (body : BodyTree) (also : Also) (told : Told items)
         (shape_of items (tree.MethodCall callee receiver args) (head id ty by)) (N receiver ∷ Ns args)
         (λ site. effects.Call site callee (all_moved id (N receiver ∷ Ns args)))
         (parts.passed_with items body also told fuel bs asked t.0.params receiver args x t.1.1.1 (λ t' j. own_kept
-        receiver (receiver_free receiver (lt _ _ _ _ (lt _ _ _ _ fr.1))) x s (here_left x (nodes_of receiver)
+        receiver (receiver_free items body also told fuel bs asked receiver (lt items body also told fuel bs asked _ _ _ _ (lt items body also told fuel bs asked _ _ _ _ fr.1))) x s (here_left x (nodes_of receiver)
         (nodes_among args) g) (Passed t') tt j (left (cells items true receiver) (all_cells items args) k)) (λ ts j.
-        args_kept ts args (hi (accesses.receiver_of bs.outer receiver (T receiver)).told (accesses.all_told
-        (accesses.arguments bs.outer args)) (lt _ _ _ _ fr.1)) x s (here_right x (nodes_of receiver) (nodes_among
+        args_kept ts args (hi items body also told fuel bs asked (accesses.receiver_of bs.outer receiver (T receiver)).told (accesses.all_told
+        (accesses.arguments bs.outer args)) (lt items body also told fuel bs asked _ _ _ _ fr.1)) x s (here_right x (nodes_of receiver) (nodes_among
         args) g) j (right (cells items true receiver) (all_cells items args) k))) (λ site. refl) around na own to
     form_kept (tree.VirtualCall trait_no method receiver args) fr x s g id ty by h pl mv k around na own to go =
         let d = some_holds (slice_get items.traits trait_no) (λ def. Rattle.well_typed.specs.Claim.some
@@ -498,10 +371,10 @@ module _ (items : ItemTable) (body : BodyTree) (also : Also) (told : Told items)
         (shape_of items (tree.VirtualCall trait_no method receiver args) (head id ty by)) (N receiver ∷ Ns args)
         (λ site. effects.CallVirtual site trait_no method (all_moved id (N receiver ∷ Ns args)))
         (parts.passed_with items body also told fuel bs asked t.0.params receiver args x t.1.1.1 (λ t' j. own_kept
-        receiver (receiver_free receiver (lt _ _ _ _ (lt _ _ _ _ fr.1))) x s (here_left x (nodes_of receiver)
+        receiver (receiver_free items body also told fuel bs asked receiver (lt items body also told fuel bs asked _ _ _ _ (lt items body also told fuel bs asked _ _ _ _ fr.1))) x s (here_left x (nodes_of receiver)
         (nodes_among args) g) (Passed t') tt j (left (cells items true receiver) (all_cells items args) k)) (λ ts j.
-        args_kept ts args (hi (accesses.receiver_of bs.outer receiver (T receiver)).told (accesses.all_told
-        (accesses.arguments bs.outer args)) (lt _ _ _ _ fr.1)) x s (here_right x (nodes_of receiver) (nodes_among
+        args_kept ts args (hi items body also told fuel bs asked (accesses.receiver_of bs.outer receiver (T receiver)).told (accesses.all_told
+        (accesses.arguments bs.outer args)) (lt items body also told fuel bs asked _ _ _ _ fr.1)) x s (here_right x (nodes_of receiver) (nodes_among
         args) g) j (right (cells items true receiver) (all_cells items args) k))) (λ site. refl) around na own to
     form_kept (tree.ClosureCall callee inside args) fr x s g id ty by h pl mv k around na own to go =
         let t = some_holds (slice_get items.bodies callee) (λ sig. both (fact (types.is_same ty sig.result))
@@ -511,8 +384,8 @@ module _ (items : ItemTable) (body : BodyTree) (also : Also) (told : Told items)
         (shape_of items (tree.ClosureCall callee inside args) (head id ty by)) (N inside ∷ Ns args)
         (λ site. effects.Call site callee (all_moved id (N inside ∷ Ns args)))
         (parts.passed_with items body also told fuel bs asked t.0.params inside args x t.1.1.1 (λ t' j. own_kept
-        inside (lt _ _ _ _ fr.1) x s (here_left x (nodes_of inside) (nodes_among args) g) (Passed t') tt j
-        (left (cells items true inside) (all_cells items args) k)) (λ ts j. args_kept ts args (lt _ _ _ _ (rt _ _ _ _
+        inside (lt items body also told fuel bs asked _ _ _ _ fr.1) x s (here_left x (nodes_of inside) (nodes_among args) g) (Passed t') tt j
+        (left (cells items true inside) (all_cells items args) k)) (λ ts j. args_kept ts args (lt items body also told fuel bs asked _ _ _ _ (rt items body also told fuel bs asked _ _ _ _
         fr.1)) x s (here_right x (nodes_of inside) (nodes_among args) g) j (right (cells items true inside) (all_cells
         items args) k))) (λ site. refl) around na own to
     form_kept (tree.Make adt variant fields) fr x s g id ty by h pl mv k around na own to go =
@@ -573,38 +446,38 @@ module _ (items : ItemTable) (body : BodyTree) (also : Also) (told : Told items)
         Why.Explicit
     form_kept (tree.Borrow unique base) fr x s g id ty by h pl mv k around na own to go =
         reach.borrowing_kept items body also bs.aliases (head id ty by) unique (N base) around own
-        (to_own_key (is_never items ty) id to) id (home (is_never items ty) id to (go.1 refl).0) (go.1 refl).1
+        (to_own_key (is_never items ty) id to) id (home items body also told fuel bs asked (is_never items ty) id to (go.1 refl).0) (go.1 refl).1
         (subst (λ z. Brings items body also bs.aliases (Led items body also bs.aliases z) ((N base).reach around))
         (sym (at_places.placed items body also told fuel bs base around na.0))
-        (node_reached base (lt _ _ _ _ fr.1) x s g (Used (borrow_by unique)) h.0 k around na))
+        (node_reached base (lt items body also told fuel bs asked _ _ _ _ fr.1) x s g (Used (borrow_by unique)) h.0 k around na))
     form_kept (tree.Unsize trait_no operand) fr x s g id ty by h pl mv k around na own to go =
         node_kept operand fr.1 x s g Taken tt h.0 (cells_of.fewer items body operand k) around na own
         (coerced (N operand).head.id trait_no (to_own_key (is_never items ty) id to))
-        (coerced_in (N operand).head.id trait_no x.outside (to_own_key (is_never items ty) id to)
-        (into_in x.outside (is_never items ty) id to go.0))
+        (coerced_in items body also told fuel bs asked (N operand).head.id trait_no x.outside (to_own_key (is_never items ty) id to)
+        (into_in items body also told fuel bs asked x.outside (is_never items ty) id to go.0))
     form_kept (tree.Block stmts tail) fr x s g id ty by h pl mv k around na own to go =
         let ks = left (all_cells items stmts) (cells_if_any items false tail) k in
         rules.block_kept items r (not_mark 5) (Calm items body also bs.aliases) (safe items body also bs.aliases)
         (head id ty by) (Ns stmts) (Ni tail) around own (to_own_key (is_never items ty) id to) (λ w. typing.ends_in
-        items stmts ≡ false) (statements_bring stmts (lt _ _ _ _ fr.1) x s (here_left x (nodes_among stmts)
+        items stmts ≡ false) (statements_bring stmts (lt items body also told fuel bs asked _ _ _ _ fr.1) x s (here_left x (nodes_among stmts)
         (nodes_if_any tail) g) (λ d. typing.tail_of d tail) h.0 ks around na)
-        (λ S v c e. tail_kept tail (rt _ _ _ _ fr.1) (behind x stmts) (scoped_by.scoped_behind items body told stmts x
+        (λ S v c e. tail_kept tail (rt items body also told fuel bs asked _ _ _ _ fr.1) (behind x stmts) (scoped_by.scoped_behind items body told stmts x
         (λ d. typing.tail_of d tail) h.0 e ks s) (scope.stood_behind items body bs stmts x (nodes_if_any tail) g)
         (at_nodes.behind_holds items body told fuel stmts x (λ d. typing.tail_of d tail) h.0)
-        (right (all_cells items stmts) (cells_if_any items false tail) k) (head id ty by) around (behind_out stmts x
-        around na) (to_own_key (is_never items ty) id to) (behind_in stmts x (to_own_key (is_never items ty) id to)
-        (into_in x.outside (is_never items ty) id to go.0)) S v c)
+        (right (all_cells items stmts) (cells_if_any items false tail) k) (head id ty by) around (behind_out items body also told fuel bs asked stmts x
+        around na) (to_own_key (is_never items ty) id to) (behind_in items body also told fuel bs asked stmts x (to_own_key (is_never items ty) id to)
+        (into_in items body also told fuel bs asked x.outside (is_never items ty) id to go.0)) S v c)
     form_kept (tree.If test consequent absent) fr x s g id ty by h pl mv k around na own to go =
         let kc = left (cells items true test ++ cells items false consequent) [] k in
         let g2 = here_left x (nodes_of test ++ nodes_of consequent) [] g in
         let into = to_own_key (is_never items ty) id to in
         parts.own_of items body also told fuel bs asked (head id ty by) own _ (parts.condition_of items body also told
-        fuel bs asked (ids x) (N test) (own_kept test (lt _ _ _ _ fr.1) x s (here_left x (nodes_of test) (nodes_of
+        fuel bs asked (ids x) (N test) (own_kept test (lt items body also told fuel bs asked _ _ _ _ fr.1) x s (here_left x (nodes_of test) (nodes_of
         consequent) g2) Taken tt h.0 (left (cells items true test) (cells items false consequent) kc)) around na
         (forms.alone items r around (N consequent) into) (evaluation.otherwise_unit items r fuel (head id ty by) None
         around into) (parts.alone_of items body also told fuel bs asked (ids x) (N consequent) (node_kept consequent
-        (lt _ _ _ _ (rt _ _ _ _ fr.1)) x s (here_right x (nodes_of test) (nodes_of consequent) g2) Taken tt h.1.1.0
-        (right (cells items true test) (cells items false consequent) kc)) around na into (branch_in consequent
+        (lt items body also told fuel bs asked _ _ _ _ (rt items body also told fuel bs asked _ _ _ _ fr.1)) x s (here_right x (nodes_of test) (nodes_of consequent) g2) Taken tt h.1.1.0
+        (right (cells items true test) (cells items false consequent) kc)) around na into (branch_in items body also told fuel bs asked consequent
         x.outside (is_never items ty) id to go.0)) (parts.unit_of items body also told fuel bs asked (head id ty by)
         into))
     form_kept (tree.If test consequent (present otherwise)) fr x s g id ty by h pl mv k around na own to go =
@@ -612,16 +485,16 @@ module _ (items : ItemTable) (body : BodyTree) (also : Also) (told : Told items)
         let g2 = here_left x (nodes_of test ++ nodes_of consequent) (nodes_of otherwise) g in
         let into = to_own_key (is_never items ty) id to in
         parts.own_of items body also told fuel bs asked (head id ty by) own _ (parts.condition_of items body also told
-        fuel bs asked (ids x) (N test) (own_kept test (lt _ _ _ _ fr.1) x s (here_left x (nodes_of test) (nodes_of
+        fuel bs asked (ids x) (N test) (own_kept test (lt items body also told fuel bs asked _ _ _ _ fr.1) x s (here_left x (nodes_of test) (nodes_of
         consequent) g2) Taken tt h.0 (left (cells items true test) (cells items false consequent) kc)) around na
         (forms.alone items r around (N consequent) into) (evaluation.otherwise_unit items r fuel (head id ty by) (Some
         (N otherwise)) around into) (parts.alone_of items body also told fuel bs asked (ids x) (N consequent)
-        (node_kept consequent (lt _ _ _ _ (rt _ _ _ _ fr.1)) x s (here_right x (nodes_of test) (nodes_of consequent)
+        (node_kept consequent (lt items body also told fuel bs asked _ _ _ _ (rt items body also told fuel bs asked _ _ _ _ fr.1)) x s (here_right x (nodes_of test) (nodes_of consequent)
         g2) Taken tt h.1.1.0 (right (cells items true test) (cells items false consequent) kc)) around na into
-        (branch_in consequent x.outside (is_never items ty) id to go.0)) (parts.alone_of items body also told fuel bs
-        asked (ids x) (N otherwise) (node_kept otherwise (hi (T consequent) (T otherwise) (rt _ _ _ _ fr.1)) x s
+        (branch_in items body also told fuel bs asked consequent x.outside (is_never items ty) id to go.0)) (parts.alone_of items body also told fuel bs
+        asked (ids x) (N otherwise) (node_kept otherwise (hi items body also told fuel bs asked (T consequent) (T otherwise) (rt items body also told fuel bs asked _ _ _ _ fr.1)) x s
         (here_right x (nodes_of test ++ nodes_of consequent) (nodes_of otherwise) g) Taken tt h.1.1.1.0 (right (cells
-        items true test ++ cells items false consequent) (cells items false otherwise) k)) around na into (branch_in
+        items true test ++ cells items false consequent) (cells items false otherwise) k)) around na into (branch_in items body also told fuel bs asked
         otherwise x.outside (is_never items ty) id to go.0)))
     form_kept (tree.IfLet p scrutinee consequent absent) fr x s g id ty by h pl mv k around na own to go =
         let k3 = left ((cells items true p ++ reached_cells items scrutinee) ++ cells items false consequent) [] k in
@@ -630,15 +503,15 @@ module _ (items : ItemTable) (body : BodyTree) (also : Also) (told : Told items)
         let k2 = left (cells items true p ++ reached_cells items scrutinee) (cells items false consequent) k3 in
         let g2 = here_left x (nodes_of p ++ nodes_of scrutinee) (nodes_of consequent) g3 in
         parts.own_of items body also told fuel bs asked (head id ty by) own _ (parts.taken_with items body also told
-        fuel bs asked p scrutinee consequent x s g3 h.0 h.1.0 k2 (node_reached scrutinee (inside_free scrutinee (lt _
+        fuel bs asked p scrutinee consequent x s g3 h.0 h.1.0 k2 (node_reached scrutinee (inside_free items body also told fuel bs asked scrutinee (lt items body also told fuel bs asked _
         _ _ _ fr.1)) x s (here_right x (nodes_of p) (nodes_of scrutinee) g2) (Used Use.Borrow) h.0 (right (cells items
         true p) (reached_cells items scrutinee) k2)) (head id ty by) around na into (parts.alone_of items body also
-        told fuel bs asked (ids x) (N consequent) (node_kept consequent (lo (T consequent) accesses.quiet
-        (hi (accesses.of_scrutinee bs.outer p scrutinee) (T consequent ⊕ accesses.quiet) (rt _ _ _ _ fr.1)))
+        told fuel bs asked (ids x) (N consequent) (node_kept consequent (lo items body also told fuel bs asked (T consequent) accesses.quiet
+        (hi items body also told fuel bs asked (accesses.of_scrutinee bs.outer p scrutinee) (T consequent ⊕ accesses.quiet) (rt items body also told fuel bs asked _ _ _ _ fr.1)))
         (with_names (entries_of p) x) (parts.taken_scoped items body also told fuel bs asked p scrutinee x s h.0 h.1.0
         k2) (scope.stood_names items body bs x p (nodes_of scrutinee) (nodes_of consequent) g3) Taken tt h.1.1.0
         (right (cells items true p ++ reached_cells items scrutinee) (cells items false consequent) k3)) around na
-        into (branch_in consequent x.outside (is_never items ty) id to go.0)) (evaluation.otherwise_unit items r fuel
+        into (branch_in items body also told fuel bs asked consequent x.outside (is_never items ty) id to go.0)) (evaluation.otherwise_unit items r fuel
         (head id ty by) None around into) (parts.unit_of items body also told fuel bs asked (head id ty by) into))
     form_kept (tree.IfLet p scrutinee consequent (present otherwise)) fr x s g id ty by h pl mv k around na own to go =
         let k3 = left ((cells items true p ++ reached_cells items scrutinee) ++ cells items false consequent)
@@ -648,21 +521,21 @@ module _ (items : ItemTable) (body : BodyTree) (also : Also) (told : Told items)
         let k2 = left (cells items true p ++ reached_cells items scrutinee) (cells items false consequent) k3 in
         let g2 = here_left x (nodes_of p ++ nodes_of scrutinee) (nodes_of consequent) g3 in
         parts.own_of items body also told fuel bs asked (head id ty by) own _ (parts.taken_with items body also told
-        fuel bs asked p scrutinee consequent x s g3 h.0 h.1.0 k2 (node_reached scrutinee (inside_free scrutinee (lt _
+        fuel bs asked p scrutinee consequent x s g3 h.0 h.1.0 k2 (node_reached scrutinee (inside_free items body also told fuel bs asked scrutinee (lt items body also told fuel bs asked _
         _ _ _ fr.1)) x s (here_right x (nodes_of p) (nodes_of scrutinee) g2) (Used Use.Borrow) h.0 (right (cells items
         true p) (reached_cells items scrutinee) k2)) (head id ty by) around na into (parts.alone_of items body also
-        told fuel bs asked (ids x) (N consequent) (node_kept consequent (lo (T consequent) (T otherwise)
-        (hi (accesses.of_scrutinee bs.outer p scrutinee) (T consequent ⊕ T otherwise) (rt _ _ _ _ fr.1))) (with_names
+        told fuel bs asked (ids x) (N consequent) (node_kept consequent (lo items body also told fuel bs asked (T consequent) (T otherwise)
+        (hi items body also told fuel bs asked (accesses.of_scrutinee bs.outer p scrutinee) (T consequent ⊕ T otherwise) (rt items body also told fuel bs asked _ _ _ _ fr.1))) (with_names
         (entries_of p) x) (parts.taken_scoped items body also told fuel bs asked p scrutinee x s h.0 h.1.0 k2)
         (scope.stood_names items body bs x p (nodes_of scrutinee) (nodes_of consequent) g3) Taken tt h.1.1.0 (right
         (cells items true p ++ reached_cells items scrutinee) (cells items false consequent) k3)) around na into
-        (branch_in consequent x.outside (is_never items ty) id to go.0)) (evaluation.otherwise_unit items r fuel (head
+        (branch_in items body also told fuel bs asked consequent x.outside (is_never items ty) id to go.0)) (evaluation.otherwise_unit items r fuel (head
         id ty by) (Some (N otherwise)) around into) (parts.alone_of items body also told fuel bs asked (ids x) (N
-        otherwise) (node_kept otherwise (hi (T consequent) (T otherwise) (hi (accesses.of_scrutinee bs.outer p
-        scrutinee) (T consequent ⊕ T otherwise) (rt _ _ _ _ fr.1))) x s (here_right x (nodes_of p ++ nodes_of
+        otherwise) (node_kept otherwise (hi items body also told fuel bs asked (T consequent) (T otherwise) (hi items body also told fuel bs asked (accesses.of_scrutinee bs.outer p
+        scrutinee) (T consequent ⊕ T otherwise) (rt items body also told fuel bs asked _ _ _ _ fr.1))) x s (here_right x (nodes_of p ++ nodes_of
         scrutinee ++ nodes_of consequent) (nodes_of otherwise) g) Taken tt h.1.1.1.0 (right ((cells items true p ++
         reached_cells items scrutinee) ++ cells items false consequent) (cells items false otherwise) k)) around na into
-        (branch_in otherwise x.outside (is_never items ty) id to go.0)))
+        (branch_in items body also told fuel bs asked otherwise x.outside (is_never items ty) id to go.0)))
     form_kept (tree.Match scrutinee arms) fr x s g id ty by h pl mv k around na own to go =
         let ks = left (reached_cells items scrutinee) (all_cells items arms) k in
         let gs = here_left x (nodes_of scrutinee) (nodes_among arms) g in
@@ -670,10 +543,10 @@ module _ (items : ItemTable) (body : BodyTree) (also : Also) (told : Told items)
         let into = to_own_key (is_never items ty) id to in
         matching.matching_kept items body also bs.aliases told (Is scrutinee) (head id ty by) (N scrutinee) (Ns arms)
         around own into (parts.made_so items body also told fuel bs asked scrutinee x (Used Use.Borrow) h.0 ks
-        (node_reached scrutinee (inside_free scrutinee (lt _ _ _ _ fr.1)) x s gs (Used Use.Borrow) h.0 ks) around na)
+        (node_reached scrutinee (inside_free items body also told fuel bs asked scrutinee (lt items body also told fuel bs asked _ _ _ _ fr.1)) x s gs (Used Use.Borrow) h.0 ks) around na)
         (λ made. subst (λ z. matching.AllArms items body also bs.aliases told z around into (Ns arms))
         (sym (at_places.placed items body also told fuel bs scrutinee around na.0))
-        (arms_kept arms (accesses.place_of bs.outer scrutinee) (rt _ _ _ _ fr.1) x s (here_right x (nodes_of
+        (arms_kept arms (accesses.place_of bs.outer scrutinee) (rt items body also told fuel bs asked _ _ _ _ fr.1) x s (here_right x (nodes_of
         scrutinee) (nodes_among arms) g) (typing.matched_in false (K x) scrutinee) (ty_of scrutinee) h.1.0 plain
         (used_listed items told scrutinee (x, s.listed) h.0)
         (right (reached_cells items scrutinee) (all_cells items arms) k) (Pn scrutinee)
@@ -684,38 +557,38 @@ module _ (items : ItemTable) (body : BodyTree) (also : Also) (told : Told items)
         (parts.lies_all items body also told fuel bs asked scrutinee x (Used Use.Borrow) h.0 (nodes_among arms)
         (nodes_of scrutinee ++ nodes_among arms) g gs (λ key n. numbered_right (nodes_of scrutinee) (nodes_among arms)
         key n) (λ key n m. rises_apart (nodes_of scrutinee) (nodes_among arms) g.here.rises key n m)) around na into
-        (into_in x.outside (is_never items ty) id to go.0)))
+        (into_in items body also told fuel bs asked x.outside (is_never items ty) id to go.0)))
     form_kept (tree.Loop looping) fr x s g id ty by h pl mv k around na own to go =
         let a = at_nodes.around_a items body told fuel id ty true in
         let into = to_own_key (is_never items ty) id to in
-        let nl = looped a x into around na (into_in x.outside (is_never items ty) id to go.0) in
+        let nl = looped items body also told fuel bs asked a x into around na (into_in items body also told fuel bs asked x.outside (is_never items ty) id to go.0) in
         parts.own_of items body also told fuel bs asked (head id ty by) own _ (rules.turns_kept items r (not_mark 5)
         (Calm items body also bs.aliases) (safe items body also bs.aliases) fuel id (evaluation.body_in items r fuel
         (N looping) (in_loop id into around)) (parts.alone_of items body also told fuel bs asked (ids (in_a_loop a x))
         (N looping) (node_kept looping fr.1 (in_a_loop a x) (scoped_by.scoped_loop items body a x s) (scope.stood_loop
         items body bs a x (nodes_of looping) g) Taken tt h.0 (cells_of.fewer items body looping k)) (in_loop id into
-        around) nl (Into (N looping).head.id) (itself (N looping).head.id x.outside)))
+        around) nl (Into (N looping).head.id) (itself items body also told fuel bs asked (N looping).head.id x.outside)))
     form_kept (tree.While test looping) fr x s g id ty by h pl mv k around na own to go =
         let a = at_nodes.around_a items body told fuel id ty false in
         let into = to_own_key (is_never items ty) id to in
-        let nl = looped a x into around na (into_in x.outside (is_never items ty) id to go.0) in
+        let nl = looped items body also told fuel bs asked a x into around na (into_in items body also told fuel bs asked x.outside (is_never items ty) id to go.0) in
         let z = scoped_by.scoped_loop items body a x s in
         let g2 = scope.stood_loop items body bs a x (nodes_of test ++ nodes_of looping) g in
         parts.own_of items body also told fuel bs asked (head id ty by) own _ (rules.turns_kept items r (not_mark 5)
         (Calm items body also bs.aliases) (safe items body also bs.aliases) fuel id _ (parts.condition_of items body
-        also told fuel bs asked (ids (in_a_loop a x)) (N test) (own_kept test (lt _ _ _ _ fr.1) (in_a_loop a x) z
+        also told fuel bs asked (ids (in_a_loop a x)) (N test) (own_kept test (lt items body also told fuel bs asked _ _ _ _ fr.1) (in_a_loop a x) z
         (here_left (in_a_loop a x) (nodes_of test) (nodes_of looping) g2) Taken tt h.0 (left (cells items true test)
         (cells items true looping) k)) (in_loop id into around) nl (evaluation.body_in items r fuel (N looping)
         (in_loop id into around)) (forms.ends_loop items r (head id ty by) into) (parts.alone_of items body also told
-        fuel bs asked (ids (in_a_loop a x)) (N looping) (node_kept looping (rt _ _ _ _ fr.1) (in_a_loop a x) z
+        fuel bs asked (ids (in_a_loop a x)) (N looping) (node_kept looping (rt items body also told fuel bs asked _ _ _ _ fr.1) (in_a_loop a x) z
         (here_right (in_a_loop a x) (nodes_of test) (nodes_of looping) g2) Taken tt h.1.1.0 (cells_of.fewer items body
         looping (right (cells items true test) (cells items true looping) k))) (in_loop id into around) nl (Into (N
-        looping).head.id) (itself (N looping).head.id x.outside)) (rules.ends_kept items r (not_mark 5) (Calm items
+        looping).head.id) (itself items body also told fuel bs asked (N looping).head.id x.outside)) (rules.ends_kept items r (not_mark 5) (Calm items
         body also bs.aliases) (safe items body also bs.aliases) (head id ty by) into)))
     form_kept (tree.WhileLet p scrutinee looping) fr x s g id ty by h pl mv k around na own to go =
         let a = at_nodes.around_a items body told fuel id ty false in
         let into = to_own_key (is_never items ty) id to in
-        let nl = looped a x into around na (into_in x.outside (is_never items ty) id to go.0) in
+        let nl = looped items body also told fuel bs asked a x into around na (into_in items body also told fuel bs asked x.outside (is_never items ty) id to go.0) in
         let g3 = scope.stood_loop items body bs a x (nodes_of p ++ nodes_of scrutinee ++ nodes_of looping) g in
         let y = in_a_loop a x in
         let z = scoped_by.scoped_loop items body a x s in
@@ -723,15 +596,15 @@ module _ (items : ItemTable) (body : BodyTree) (also : Also) (told : Told items)
         let g2 = here_left y (nodes_of p ++ nodes_of scrutinee) (nodes_of looping) g3 in
         parts.own_of items body also told fuel bs asked (head id ty by) own _ (rules.turns_kept items r (not_mark 5)
         (Calm items body also bs.aliases) (safe items body also bs.aliases) fuel id _ (parts.taken_with items body
-        also told fuel bs asked p scrutinee looping y z g3 h.0 h.1.0 k2 (node_reached scrutinee (inside_free scrutinee
-        (lt _ _ _ _ fr.1)) y z (here_right y (nodes_of p) (nodes_of scrutinee) g2) (Used Use.Borrow) h.0 (right (cells
+        also told fuel bs asked p scrutinee looping y z g3 h.0 h.1.0 k2 (node_reached scrutinee (inside_free items body also told fuel bs asked scrutinee
+        (lt items body also told fuel bs asked _ _ _ _ fr.1)) y z (here_right y (nodes_of p) (nodes_of scrutinee) g2) (Used Use.Borrow) h.0 (right (cells
         items true p) (reached_cells items scrutinee) k2)) (head id ty by) (in_loop id into around) nl (Into (N
         looping).head.id) (parts.alone_of items body also told fuel bs asked (ids y) (N looping)
-        (node_kept looping (hi (accesses.of_scrutinee bs.outer p scrutinee) (T looping) (rt _ _ _ _ fr.1)) (with_names
+        (node_kept looping (hi items body also told fuel bs asked (accesses.of_scrutinee bs.outer p scrutinee) (T looping) (rt items body also told fuel bs asked _ _ _ _ fr.1)) (with_names
         (entries_of p) y) (parts.taken_scoped items body also told fuel bs asked p scrutinee y z h.0 h.1.0 k2)
         (scope.stood_names items body bs y p (nodes_of scrutinee) (nodes_of looping) g3) Taken tt h.1.1.0
         (cells_of.fewer items body looping (right (cells items true p ++ reached_cells items scrutinee) (cells items
-        true looping) k))) (in_loop id into around) nl (Into (N looping).head.id) (itself (N looping).head.id
+        true looping) k))) (in_loop id into around) nl (Into (N looping).head.id) (itself items body also told fuel bs asked (N looping).head.id
         x.outside)) (forms.ends_loop items r (head id ty by) into)
         (rules.ends_kept items r (not_mark 5) (Calm items body also bs.aliases) (safe items body also bs.aliases)
         (head id ty by) into)))
@@ -761,7 +634,7 @@ module _ (items : ItemTable) (body : BodyTree) (also : Also) (told : Told items)
     arms_kept no_node sc fr x s g m want h plain l k place looked ok moved_ lies around na to d = tt
     arms_kept (a_node (node id at ty by form) rest) sc fr x s g m want h plain l k place looked ok moved_ lies around
         na to d = (
-          arm_kept form sc id at ty by (lt _ _ _ _ fr) (beside id x) (scope.scoped_beside items body bs id x s)
+          arm_kept form sc id at ty by (lt items body also told fuel bs asked _ _ _ _ fr) (beside id x) (scope.scoped_beside items body bs id x s)
               (scope.stood_beside items body bs x (node id at ty by form) (nodes_in form)
               (here_left x (nodes_of (node id at ty by form)) (nodes_among rest) g)) m want h.0 plain l
               (cells_of.inside items body true (node id at ty by form)
@@ -769,8 +642,8 @@ module _ (items : ItemTable) (body : BodyTree) (also : Also) (told : Told items)
               (looked_beside items body bs x (node id at ty by form) (nodes_in form) sc place
               (looked_left items body bs x (nodes_of (node id at ty by form)) (nodes_among rest) sc place looked)) ok
               moved_ (λ pattern i. lies pattern (λ key n. numbered_left (nodes_of (node id at ty by form))
-              (nodes_among rest) key (inr (i key n)))) around (inner id x around na) to (further_in id x.outside to d),
-          arms_kept rest sc (rt _ _ _ _ fr) x s (here_right x (nodes_of (node id at ty by form)) (nodes_among rest) g) m
+              (nodes_among rest) key (inr (i key n)))) around (inner items body also told fuel bs asked id x around na) to (further_in id x.outside to d),
+          arms_kept rest sc (rt items body also told fuel bs asked _ _ _ _ fr) x s (here_right x (nodes_of (node id at ty by form)) (nodes_among rest) g) m
               want h.1 plain l (right (cells items true (node id at ty by form)) (all_cells items rest) k) place
               (looked_right items body bs x (nodes_of (node id at ty by form)) (nodes_among rest) sc place looked) ok
               moved_ (λ pattern i. lies pattern (λ key n. numbered_right (nodes_of (node id at ty by form))
@@ -789,24 +662,24 @@ module _ (items : ItemTable) (body : BodyTree) (also : Also) (told : Told items)
         KeepsIf items body also bs.aliases (Led items body also bs.aliases place) otherwise →
         KeepsIf items body also bs.aliases (Led items body also bs.aliases place) ((F form id ty by).arm place
         otherwise around to)
-    arm_kept (tree.Arm p guard inner) sc id at ty by fr x s g m want h plain l k place looked ok moved_ lies around na
+    arm_kept (tree.Arm p guard inside) sc id at ty by fr x s g m want h plain l k place looked ok moved_ lies around na
         to d otherwise o =
-        let k2 = left (cells items true p ++ cells_if_any items true guard) (cells items false inner) k in
+        let k2 = left (cells items true p ++ cells_if_any items true guard) (cells items false inside) k in
         let kp = left (cells items true p) (cells_if_any items true guard) k2 in
-        let lp = lies (nodes_of p) (λ key n. numbered_left (nodes_of p ++ nodes_if_any guard) (nodes_of inner) key
+        let lp = lies (nodes_of p) (λ key n. numbered_left (nodes_of p ++ nodes_if_any guard) (nodes_of inside) key
         (numbered_left (nodes_of p) (nodes_if_any guard) key n)) in
-        matching.arm_kept items body also bs.aliases told (head id ty by) (N p) (Ni guard) (N inner) place otherwise
+        matching.arm_kept items body also bs.aliases told (head id ty by) (N p) (Ni guard) (N inside) place otherwise
         around to (subst (λ (z : Shape). matching.Tested items body also bs.aliases told (z.tests place) place
         (z.bindings place)) (sym (shape_is items r fuel p))
         (parts.pattern_tested items body also told fuel bs asked p p x s m want h.1.1.0 plain kp place ok moved_ lp))
-        (parts.guarded_kept items body also told fuel bs asked guard p sc (lt _ _ _ _ fr) x s (here_left x (nodes_of p
-        ++ nodes_if_any guard) (nodes_of inner) g) m want plain l h.1.1.0 h.1.1.1.0 kp (right (cells items true p)
+        (parts.guarded_kept items body also told fuel bs asked guard p sc (lt items body also told fuel bs asked _ _ _ _ fr) x s (here_left x (nodes_of p
+        ++ nodes_if_any guard) (nodes_of inside) g) m want plain l h.1.1.0 h.1.1.1.0 kp (right (cells items true p)
         (cells_if_any items true guard) k2) place (looked_left items body bs x (nodes_of p ++ nodes_if_any guard)
-        (nodes_of inner) sc place looked) ok moved_ lp around na) (node_kept inner (hi (accesses.accesses_of
-        (accesses.bound sc p)) (T inner) (rt _ _ _ _ fr)) (with_names (entries_of p) x) (scoped_by.scoped_names items
+        (nodes_of inside) sc place looked) ok moved_ lp around na) (node_kept inside (hi items body also told fuel bs asked (accesses.accesses_of
+        (accesses.bound sc p)) (T inside) (rt items body also told fuel bs asked _ _ _ _ fr)) (with_names (entries_of p) x) (scoped_by.scoped_names items
         body told p m want x h.1.1.0 (inl plain) l kp s) (scope.stood_names items body bs x p (nodes_if_any guard)
-        (nodes_of inner) g) Taken tt h.1.1.1.1.0 (right (cells items true p ++ cells_if_any items true guard) (cells
-        items false inner) k) around na true to (further_in (N inner).head.id x.outside to d)) o
+        (nodes_of inside) g) Taken tt h.1.1.1.1.0 (right (cells items true p ++ cells_if_any items true guard) (cells
+        items false inside) k) around na true to (further_in (N inside).head.id x.outside to d)) o
     arm_kept form sc id at ty by fr x s g m want h plain l k place looked ok moved_ lies around na to d otherwise o =
         absurd (false≢true h)
 
@@ -818,9 +691,9 @@ module _ (items : ItemTable) (body : BodyTree) (also : Also) (told : Told items)
     args_kept tys no_node fr x s g h k around na = tt
     args_kept [] (a_node first rest) fr x s g h k around na = absurd (false≢true h)
     args_kept (ty ∷ tys) (a_node first rest) fr x s g h k around na = (
-      own_kept first (argument_free first ((lt _ _ _ _ fr))) x s (here_left x (nodes_of first) (nodes_among rest) g)
+      own_kept first (argument_free items body also told fuel bs asked first ((lt items body also told fuel bs asked _ _ _ _ fr))) x s (here_left x (nodes_of first) (nodes_among rest) g)
           (Passed ty) tt h.0 (left (cells items true first) (all_cells items rest) k) around na false,
-      args_kept tys rest (rt _ _ _ _ fr) x s (here_right x (nodes_of first) (nodes_among rest) g) h.1
+      args_kept tys rest (rt items body also told fuel bs asked _ _ _ _ fr) x s (here_right x (nodes_of first) (nodes_among rest) g) h.1
           (right (cells items true first) (all_cells items rest) k) around na,
     )
 
@@ -830,9 +703,9 @@ module _ (items : ItemTable) (body : BodyTree) (also : Also) (told : Told items)
     parts_kept tys no_node fr x s g h k around na = tt
     parts_kept [] (a_node first rest) fr x s g h k around na = absurd (false≢true h)
     parts_kept (ty ∷ tys) (a_node first rest) fr x s g h k around na = (
-      own_kept first (lt _ _ _ _ fr) x s (here_left x (nodes_of first) (nodes_among rest) g) (Wanted ty) tt h.0
+      own_kept first (lt items body also told fuel bs asked _ _ _ _ fr) x s (here_left x (nodes_of first) (nodes_among rest) g) (Wanted ty) tt h.0
           (left (cells items true first) (all_cells items rest) k) around na false,
-      parts_kept tys rest (rt _ _ _ _ fr) x s (here_right x (nodes_of first) (nodes_among rest) g) h.1
+      parts_kept tys rest (rt items body also told fuel bs asked _ _ _ _ fr) x s (here_right x (nodes_of first) (nodes_among rest) g) h.1
           (right (cells items true first) (all_cells items rest) k) around na,
     )
 
@@ -841,9 +714,9 @@ module _ (items : ItemTable) (body : BodyTree) (also : Also) (told : Told items)
         ns) → L (ids x) (Ns ns)
     elements_kept ty no_node fr x s g h k around na = tt
     elements_kept ty (a_node first rest) fr x s g h k around na = (
-      own_kept first (lt _ _ _ _ fr) x s (here_left x (nodes_of first) (nodes_among rest) g) (Wanted ty) tt h.0
+      own_kept first (lt items body also told fuel bs asked _ _ _ _ fr) x s (here_left x (nodes_of first) (nodes_among rest) g) (Wanted ty) tt h.0
           (left (cells items true first) (all_cells items rest) k) around na false,
-      elements_kept ty rest (rt _ _ _ _ fr) x s (here_right x (nodes_of first) (nodes_among rest) g) h.1
+      elements_kept ty rest (rt items body also told fuel bs asked _ _ _ _ fr) x s (here_right x (nodes_of first) (nodes_among rest) g) h.1
           (right (cells items true first) (all_cells items rest) k) around na,
     )
 
@@ -853,9 +726,9 @@ module _ (items : ItemTable) (body : BodyTree) (also : Also) (told : Told items)
     captures_kept tys no_node fr x s g h k around na = tt
     captures_kept [] (a_node first rest) fr x s g h k around na = absurd (false≢true h)
     captures_kept (ty ∷ tys) (a_node first rest) fr x s g h k around na = (
-      own_kept first (lt _ _ _ _ fr) x s (here_left x (nodes_of first) (nodes_among rest) g) Taken tt h.0
+      own_kept first (lt items body also told fuel bs asked _ _ _ _ fr) x s (here_left x (nodes_of first) (nodes_among rest) g) Taken tt h.0
           (left (cells items true first) (all_cells items rest) k) around na false,
-      captures_kept tys rest (rt _ _ _ _ fr) x s (here_right x (nodes_of first) (nodes_among rest) g) h.1.1
+      captures_kept tys rest (rt items body also told fuel bs asked _ _ _ _ fr) x s (here_right x (nodes_of first) (nodes_among rest) g) h.1.1
           (right (cells items true first) (all_cells items rest) k) around na,
     )
 
@@ -865,9 +738,9 @@ module _ (items : ItemTable) (body : BodyTree) (also : Also) (told : Told items)
     fields_kept tys no_field fr x s g h k around na = tt
     fields_kept tys (a_field number value rest) fr x s g h k around na =
         let t = some_holds (slice_get tys number) (λ ty. typing.typed (K x) (Wanted ty) value) h.0 in (
-          own_kept value (lt _ _ _ _ fr) x s (here_left x (nodes_of value) (nodes_of_fields rest) g) (Wanted t.0) tt
+          own_kept value (lt items body also told fuel bs asked _ _ _ _ fr) x s (here_left x (nodes_of value) (nodes_of_fields rest) g) (Wanted t.0) tt
               t.1.1 (left (cells items true value) (cells_of_fields items rest) k) around na false,
-          fields_kept tys rest (rt _ _ _ _ fr) x s (here_right x (nodes_of value) (nodes_of_fields rest) g) h.1
+          fields_kept tys rest (rt items body also told fuel bs asked _ _ _ _ fr) x s (here_right x (nodes_of value) (nodes_of_fields rest) g) h.1
               (right (cells items true value) (cells_of_fields items rest) k) around na,
         )
 
@@ -915,17 +788,17 @@ module _ (items : ItemTable) (body : BodyTree) (also : Also) (told : Told items)
         rules.brought_more items r (not_mark 5) (Calm items body also bs.aliases) (safe items body also bs.aliases)
         (λ w. typing.ends_by items form ≡ false) (λ w. typing.ends_in items (a_node first more) ≡ false)
         ((N first).evaluate around false (Into (N first).head.id) S v) (forms.statements items r around (Ns more))
-        (statement_brings form (at, (lt _ _ _ _ ((lt _ _ _ _ fr)))) (beside id x) (scope.scoped_beside items body bs
+        (statement_brings form (at, (lt items body also told fuel bs asked _ _ _ _ ((lt items body also told fuel bs asked _ _ _ _ fr)))) (beside id x) (scope.scoped_beside items body bs
         id x s) (scope.stood_beside items body bs x first (nodes_in form)
-        (here_left x (nodes_of first) (nodes_among more) g)) id ty by h.1.0 kf around (inner id x around na) S v c)
+        (here_left x (nodes_of first) (nodes_among more) g)) id ty by h.1.0 kf around (inner items body also told fuel bs asked id x around na) S v c)
         (λ T w d e. rules.brought_as items r (not_mark 5) (Calm items body also bs.aliases) (safe items body also
         bs.aliases) (λ w. typing.ends_in items more ≡ false) (λ w. typing.ends_in items (a_node first more) ≡ false)
         (forms.statements items r around (Ns more) T w)
         (λ u f. at_nodes.either_false items body told fuel (typing.ends_by items form) (typing.ends_in items more) e f)
-        (statements_bring more (rt _ _ _ _ fr) (with_names (typing.entries_in form) x)
+        (statements_bring more (rt items body also told fuel bs asked _ _ _ _ fr) (with_names (typing.entries_in form) x)
         (scoped_by.scoped_statement items body told form x h.1.0 e kf s)
         (scope.stood_next items body bs first x (nodes_among more) g) rest h.1.1
-        (right (cells items true first) (all_cells items more) k) around (statement_out form x around na) T w d))
+        (right (cells items true first) (all_cells items more) k) around (statement_out items body also told fuel bs asked form x around na) T w d))
 
     statement_brings : (form : Form) → FreeIn form → (x : Standpoint) → Scoped items body x → Stood items body bs x
         (nodes_in form) → (id : ℕ) (ty : TyId) (by : Option Use) → Holds (typing.statement (K x) form) → H (cells_in
@@ -946,9 +819,9 @@ module _ (items : ItemTable) (body : BodyTree) (also : Also) (told : Told items)
         (forms.let_name items r (head id ty by) (head pid pty pby) (N value) around S v)
         (rules.let_name_kept items r (not_mark 5) (Calm items body also bs.aliases) (safe items body also bs.aliases)
         (head id ty by) (head pid pty pby) (N value) around
-        (node_kept value (lt _ _ _ _ fr.1) (beside pid x) (scope.scoped_beside items body bs pid x s)
-        (scope.stood_beside items body bs x p (nodes_of value) g) (Wanted pty) tt h.0 kv around (inner pid x around
-        na) false (Into pid) (also_among (N value).head.id (pid ∷ x.outside) pid (itself pid x.outside))) S v c)
+        (node_kept value (lt items body also told fuel bs asked _ _ _ _ fr.1) (beside pid x) (scope.scoped_beside items body bs pid x s)
+        (scope.stood_beside items body bs x p (nodes_of value) g) (Wanted pty) tt h.0 kv around (inner items body also told fuel bs asked pid x around
+        na) false (Into pid) (also_among (N value).head.id (pid ∷ x.outside) pid (itself items body also told fuel bs asked pid x.outside))) S v c)
         (λ e. rules.let_name_none items r (not_mark 5) (Calm items body also bs.aliases) (safe items body also
         bs.aliases) (head id ty by) (head pid pty pby) (N value) around
         (λ T w. none_so items body also bs.aliases fuel value around false (Into pid) T w
@@ -958,7 +831,7 @@ module _ (items : ItemTable) (body : BodyTree) (also : Also) (told : Told items)
         let kv = right (cells items true (node pid pat pty pby pform)) (reached_cells items value) k in
         parts.parted_with items body also told fuel bs asked (node pid pat pty pby pform) value pty x s g id ty by
         refl h.0 h.1 refl (left (cells items true (node pid pat pty pby pform)) (reached_cells items value) k) kv
-        (node_reached value (inside_free value (lt _ _ _ _ fr.1)) x s (here_right x (nodes_of (node pid pat pty pby
+        (node_reached value (inside_free items body also told fuel bs asked value (lt items body also told fuel bs asked _ _ _ _ fr.1)) x s (here_right x (nodes_of (node pid pat pty pby
         pform)) (nodes_of value) g) Base h.0 kv) around na S v c
     statement_brings (tree.Evaluate expression) fr x s g id ty by h k around na S v c =
         parts.made_evaluated items body also told fuel bs asked (types.is_never items (ty_of expression))

@@ -41,7 +41,7 @@ use Rattle.soundness.proofs.PassPlacesScope as scope
 use Rattle.soundness.proofs.PassPlacesScope.{Stood, Bindings}
 use Rattle.soundness_cells.proofs.PassRestSplit.{PlacesHold}
 use Rattle.soundness_frame.proofs.PassTold.{ids}
-use Rattle.soundness_frame.proofs.PassToldForms.{node_above}
+use Rattle.soundness_frame.proofs.PassToldBelow.{node_above}
 use Rattle.soundness.proofs.PassWatched.{ends_alike}
 
 own_node : (m : Node) → NodeIn (nodes_of m) m

@@ -1,11 +1,9 @@
 -- The test of protected parameters at a call: what is passed as a reference to exactly what a protected parameter names
 -- was made by the argument itself, which is `&mut *p` then; so the test holds, if it does of each such argument.
 use Rattle.std.proofs.Common.{◌≡◌, inl, ℕ, suc, ◌==◌, ◌&&◌, ◌||◌, not, Bool, true, false, List, [], ◌∷◌, map, Option, Some, None, if◌then◌else◌, refl, ap, sym, ◌∙◌, subst}
-use Rattle.std.specs.Prelude.{slice_get, option_and_then}
 use Rattle.std.specs.Cmp.{first_so, second_so}
 use Rattle.std.specs.Cmp.Derive.{both_true}
 use Rattle.std.specs.List.{list_all, find}
-use Rattle.std.specs.Option.{option_map_or}
 use Rattle.std.proofs.lemmas.Bool.{false≢true}
 use Rattle.std.proofs.lemmas.Bool.Decides.{Decides-eqb}
 use Rattle.std.proofs.lemmas.Option.{none-some, same_Some}
@@ -14,7 +12,7 @@ use Rattle.mir_ty.specs.declared.ty.TyId.{TyId}
 use Rattle.mir_ty.specs.ItemTable.{ItemTable, type_at}
 use Rattle.store_model.specs.Abstract.Presence.{Presence}
 use Rattle.store_model.specs.Effects.{Operand}
-use Rattle.store_model.specs.Places.Place.{Place, is_reference}
+use Rattle.store_model.specs.Places.Place.{is_reference}
 use Rattle.src_meaning.specs.Forms.{moved}
 use Rattle.src_meaning.specs.Locals.Effects.{operand_at}
 use Rattle.src_meaning.specs.Locals.OfBody.{local_ty, local_of, local_keys}
@@ -26,11 +24,11 @@ use Rattle.soundness_values.proofs.Checks as checks
 use Rattle.soundness_values.proofs.DropsCount.{is_content}
 use Rattle.soundness_values.proofs.Facts.{Naming, Facts, Each}
 use Rattle.soundness_cells.proofs.PassCells.{NodeIn, node_left, node_right, one_node}
-use Rattle.soundness_frame.proofs.PassFrameForms.{moved_nodes}
+use Rattle.soundness_frame.proofs.PassFrameHeads.{moved_nodes}
 use Rattle.soundness_cells.proofs.PassLocals.{one_key}
 use Rattle.soundness.proofs.PassNamingKept.{AllNamed, operand_named}
 use Rattle.soundness_cells.proofs.PassNumbers.{Rises}
-use Rattle.soundness_values.proofs.ProtectTests.{marked_naming, marked_one, marked}
+use Rattle.soundness_values.proofs.ProtectTests.{marked_naming, marked}
 
 -- one that is found
 found_of : (P : Naming → Type 0) (test : Naming → Bool) (l : List Naming) (m : Naming) → find test l ≡ Some m →

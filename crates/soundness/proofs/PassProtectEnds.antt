@@ -1,34 +1,30 @@
 -- No run of a body of a sound program fails a test of protected parameters: of each borrow, call and assignment of its
 -- block is known what is asked, by the text.
-use Rattle.std.proofs.Common.{◌≡◌, ◌⊎◌, inl, inr, ℕ, ◌+◌, ◌==◌, ◌&&◌, not, Bool, true, false, List, [], ◌∷◌, ◌++◌, map, Option, Some, None, if◌then◌else◌, refl, ap, sym, ◌∙◌, subst, arith}
+use Rattle.std.proofs.Common.{◌≡◌, inl, inr, ℕ, ◌+◌, ◌&&◌, not, Bool, true, false, List, [], ◌∷◌, ◌++◌, map, Option, Some, None, if◌then◌else◌, refl, ap, sym, ◌∙◌, subst, arith}
 use Rattle.std.specs.Prelude.{slice_get}
 use Rattle.std.specs.Cmp.{first_so, second_so}
-use Rattle.std.specs.Option.{option_map_or}
 use Rattle.std.proofs.lemmas.Bool.{false≢true}
 use Rattle.std.proofs.lemmas.Bool.Decides.{Decides-eqb}
 use Rattle.mir_base.specs.declared.place_in_text.Pos.{Pos}
 use Rattle.mir_ty.specs.declared.def.Sig.{Sig}
 use Rattle.mir_ty.specs.declared.ty.TyId.{TyId}
-use Rattle.mir_ty.specs.ItemTable.{ItemTable}
 use Rattle.store_model.specs.Abstract.Effects.{AbstractState}
 use Rattle.store_model.specs.Effects as effects
-use Rattle.store_model.specs.Effects.{EffectSite, Action}
-use Rattle.store_model.specs.Places.Place.{Place, whole_local}
+use Rattle.store_model.specs.Effects.{EffectSite}
 use Rattle.typed_tree.specs.declared.node.Use.{Use}
-use Rattle.typed_tree.specs.Nodes.{number_of, nodes_of, nodes_in, nodes_among, param_nodes}
+use Rattle.typed_tree.specs.Nodes.{number_of, nodes_of, nodes_in, param_nodes}
 use Rattle.typed_tree.specs.Tree as tree
-use Rattle.typed_tree.specs.Tree.{Node, node, Form, Nodes, a_node, BodyTree, ProgramTree}
+use Rattle.typed_tree.specs.Tree.{Node, node, Form, a_node, BodyTree, ProgramTree}
 use Rattle.src_meaning.specs.Forms.{site_in}
-use Rattle.src_meaning.specs.Locals.Effects.{place_at, step_at, operand_at, action_at, site_at}
+use Rattle.src_meaning.specs.Locals.Effects.{place_at, operand_at, action_at}
 use Rattle.src_meaning.specs.Locals.OfBody.{local_of, local_ty}
 use Rattle.src_meaning.specs.Programs.{activation}
 use Rattle.src_meaning.specs.Shape as shapes
 use Rattle.src_meaning.specs.Shape.{shape}
 use Rattle.typing_rules.specs.Accesses as rules
-use Rattle.typing_rules.specs.Accesses.{◌⊕◌, told_form, inside, place_of, root_of, one, replaces}
-use Rattle.typing_rules.specs.Replaced.{OfBody, OfTrait, content_of, passes_key, store_of}
-use Rattle.well_typed.specs.Claim.{Holds, fact, both}
-use Rattle.well_typed.specs.Nodes as typing
+use Rattle.typing_rules.specs.Accesses.{◌⊕◌, inside, place_of, root_of, one, replaces}
+use Rattle.typing_rules.specs.Replaced.{OfBody, OfTrait, content_of, store_of}
+use Rattle.well_typed.specs.Claim.{Holds}
 use Rattle.well_typed.specs.Nodes.{is_closure_body}
 use Rattle.well_typed.specs.Program.{is_body}
 use Rattle.soundness_values.specs.Laws.{IsSound}
@@ -41,24 +37,23 @@ use Rattle.soundness_values.proofs.Leaving.{ShownOut}
 use Rattle.soundness_values.proofs.OnceByPass.{protected}
 use Rattle.soundness_frame.proofs.PassWithin.{Outer}
 use Rattle.soundness_frame.proofs.PassBlockTold.{in_block, block_within}
-use Rattle.soundness_cells.proofs.PassCells.{NodeIn, node_left, node_right}
+use Rattle.soundness_cells.proofs.PassCells.{NodeIn, node_left}
 use Rattle.soundness.proofs.PassContents.{Plain, Names, names_content, content_at}
-use Rattle.soundness_cells.proofs.PassFacts.{Standpoint, context}
+use Rattle.soundness_cells.proofs.PassFacts.{Standpoint}
 use Rattle.soundness_cells.proofs.PassFirst.{body_at}
 use Rattle.soundness_frame.proofs.PassFrameBodies.{any_place, body_kept}
-use Rattle.soundness_frame.proofs.PassFrameForms.{Telling, TellingCalls, moved_nodes, node_site}
+use Rattle.soundness_frame.proofs.PassFrameHeads.{Telling, TellingCalls, moved_nodes, node_site}
 use Rattle.soundness_cells.proofs.PassNumbers.{Numbered, Rises, rises_right, rises_apart}
-use Rattle.soundness.proofs.PassProtectArgs as named
-use Rattle.soundness.proofs.PassProtectArgs.{MadeBy, args_hold}
+use Rattle.soundness.proofs.PassProtectArgs.{args_hold}
 use Rattle.soundness.proofs.PassProtectCalls as calls
-use Rattle.soundness.proofs.PassProtectLaw.{Param, protected_param, never_stored, param_numbered}
+use Rattle.soundness.proofs.PassProtectLaw.{protected_param, never_stored, param_numbered}
 use Rattle.soundness.proofs.PassProtectRun as runs
 use Rattle.soundness.proofs.PassProtectRun.{unless_none, some_sig, some_head}
 use Rattle.soundness_cells.proofs.PassRefilled.{not_mark}
 use Rattle.soundness_frame.proofs.PassTold as here
-use Rattle.soundness_frame.proofs.PassTold.{KnownOf, Here, IfRoot, Told}
-use Rattle.soundness_frame.proofs.PassToldForms.{Saying}
-use Rattle.soundness_frame.proofs.PassToldPlaces.{is_alias, AllPermit, Permits}
+use Rattle.soundness_frame.proofs.PassTold.{KnownOf, Here, IfRoot}
+use Rattle.soundness_frame.proofs.PassToldBelow.{Saying}
+use Rattle.soundness_frame.proofs.PassToldPlaces.{is_alias, Permits}
 
 pub numbered_in : (ns : List Node) (m : Node) → NodeIn ns m → Numbered ns (number_of m)
 numbered_in [] m i = absurd i

@@ -28,6 +28,7 @@ use Rattle.soundness.proofs.PassPlacesBodies as bodies
 use Rattle.soundness.proofs.PassPlacesBodies.{is_block}
 use Rattle.soundness.proofs.PassPlacesEffects.{q}
 use Rattle.soundness.proofs.PassResultEffects.{Full, keeps_whole}
+use Rattle.soundness.proofs.PassResultKinds as pass_result_kinds
 use Rattle.soundness.proofs.PassResultForms as pass
 use Rattle.soundness.proofs.PassResultRules as rules
 
@@ -55,7 +56,7 @@ module _ (items : ItemTable) (body : BodyTree) (also : Also) (told : Told items)
   W = Full items body also z
 
   abbrev OffN : List Node → Type 0
-  OffN = pass.OffN items body also told fuel z W (keeps_whole items body also z)
+  OffN = pass_result_kinds.OffN items body also told fuel z W (keeps_whole items body also z)
 
   abbrev Makes : LoopsAndGuards → Type 0 → Does V → Type 0
   Makes = rules.Makes items r z W (keeps_whole items body also z)
@@ -74,7 +75,7 @@ module _ (items : ItemTable) (body : BodyTree) (also : Also) (told : Told items)
       ((shape items param.pattern).bindings (whole_local (param_key param)))) (params_entered items r fuel params)
       (names_so around (shape items param.pattern).is_binding
       ((shape items param.pattern).bindings (whole_local (param_key param)))
-      (pass.names_off items body also told fuel z W (keeps_whole items body also z) param.pattern
+      (pass_result_kinds.names_off items body also told fuel z W (keeps_whole items body also z) param.pattern
       (whole_local (param_key param)) (λ key n. o key (numbered_left (nodes_of param.pattern) (param_nodes params) key n))))
       (params_so around params (λ key n. o key (numbered_right (nodes_of param.pattern) (param_nodes params) key n)))
       (innermost (with_entry (record { key = param_key param; ty = param.ty })) S) v
@@ -87,9 +88,9 @@ module _ (items : ItemTable) (body : BodyTree) (also : Also) (told : Told items)
   block_so : (n : Node) (x : Standpoint) (standing : Standing) → is_block (form_of n) ≡ true →
       Holds (typing.typed (context items x) standing n) → Has items body (inside items n) →
       OffN (nodes_in (form_of n)) →
-      pass.Es items body also told fuel z W (keeps_whole items body also z) n
+      pass_result_kinds.Es items body also told fuel z W (keeps_whole items body also z) n
   block_so (node id at ty by form) x standing is h k o =
-      pass.by_type items body also told fuel z W (keeps_whole items body also z) (node id at ty by form)
+      pass_result_kinds.by_type items body also told fuel z W (keeps_whole items body also z) (node id at ty by form)
       (λ m. made.form_ends items body also told fuel form x id ty by h.1 k (no_cell form is) m)
       (pass.form_whole items body also told fuel z W (keeps_whole items body also z) form x id ty by h.1 k o)
 

@@ -1,49 +1,46 @@
 -- Whole results: where a node has a value that goes to the cell of a key, or jumps with one, this cell is whole. Each
 -- node fills its destination last, and no entry of a scope that it opens is that cell. One line a form.
-use Rattle.std.proofs.Common.{◌≡◌, inl, inr, ℕ, ◌==◌, ◌&&◌, not, Bool, true, false, List, [], ◌∷◌, ◌++◌, length, Option, Some, slice_get, refl, ap, sym, ◌∙◌, subst}
+use Rattle.std.proofs.Common.{◌≡◌, inl, ℕ, ◌==◌, ◌&&◌, not, true, false, List, [], ◌∷◌, ◌++◌, length, Option, Some, slice_get, refl, sym, ◌∙◌, subst}
 use Rattle.std.proofs.lemmas.Bool.{false≢true}
 use Rattle.std.proofs.lemmas.Option.{none-some}
 use Rattle.mir_base.specs.declared.place_in_text.Pos.{Pos}
 use Rattle.mir_ty.specs.declared.ty.TyId.{TyId}
 use Rattle.mir_ty.specs.ItemTable.{ItemTable}
 use Rattle.store_model.specs.Effects as effects
-use Rattle.store_model.specs.Effects.{EffectSite, Action, OfTuple, OfArray, OfVariant, OfClosure, Out, Go, Unwind, Halts, Effects, stores_where, DoesNotGoOn}
+use Rattle.store_model.specs.Effects.{OfTuple, OfArray, OfVariant, OfClosure, Effects}
 use Rattle.store_model.specs.Places.Place.{Place, whole_local}
 use Rattle.typed_tree.specs.declared.node.Use.{Use}
-use Rattle.typed_tree.specs.Nodes.{number_of, nodes_of, nodes_in, nodes_among, nodes_of_fields, nodes_if_any}
+use Rattle.typed_tree.specs.Nodes.{nodes_of, nodes_in, nodes_among, nodes_of_fields, nodes_if_any}
 use Rattle.typed_tree.specs.Tree as tree
 use Rattle.typed_tree.specs.Tree.{Node, node, Form, Nodes, no_node, a_node, Fields, no_field, a_field, MaybeNode, absent, present, BodyTree}
-use Rattle.src_meaning.specs.Evaluation as evaluation
 use Rattle.src_meaning.specs.Evaluation.{meaning, meanings, fields_of, meaning_if_any, values_of, in_number_order, to_own_key}
 use Rattle.src_meaning.specs.Forms as forms
-use Rattle.src_meaning.specs.Forms.{Destination, Into, Coerced, coerced, LoopsAndGuards, Meaning, in_loop, loop_destination, moved, all_moved, is_never, place_of, site_in, site_of}
+use Rattle.src_meaning.specs.Forms.{Destination, Into, coerced, LoopsAndGuards, Meaning, in_loop, loop_destination, moved, all_moved, is_never, place_of, site_of}
 use Rattle.src_meaning.specs.Locals.OfBody.{cells, reached_cells, cells_in, all_cells, cells_of_fields, cells_if_any}
-use Rattle.src_meaning.specs.Scopes.{Entry, Value, Breaks, Continues, Returns, Panics, Scopes, Run, At, Over, Does}
-use Rattle.src_meaning.specs.Shape.{NodeHead, head, Shape, BoundName, shape, shape_of, kind_of, operand_at}
-use Rattle.well_typed.specs.Claim.{Holds, fact, both, nothing}
+use Rattle.src_meaning.specs.Scopes.{Entry, Does}
+use Rattle.src_meaning.specs.Shape.{NodeHead, head, BoundName, shape_of, kind_of}
+use Rattle.well_typed.specs.Claim.{Holds, fact, both}
 use Rattle.well_typed.specs.Names.{are_distinct_numbers}
 use Rattle.well_typed.specs.Nodes as typing
 use Rattle.well_typed.specs.Patterns as patterns
-use Rattle.well_typed.specs.Places.{LoopAround, Context, loop_with, in_guard, ty_of, form_of, is_place, borrow_by, Standing, Taken, Wanted, Passed, Base, Used, Stored}
+use Rattle.well_typed.specs.Places.{LoopAround, Context, loop_with, in_guard, ty_of, is_place, borrow_by, Standing, Taken, Wanted, Passed, Base, Used, Stored}
 use Rattle.well_typed.specs.Types as types
 use Rattle.soundness_values.proofs.AlsoTests.{Also}
 use Rattle.soundness_values.proofs.Checked.{Checking}
 use Rattle.soundness_values.proofs.Facts.{Facts}
 use Rattle.soundness_cells.proofs.PassCellParts as at_nodes
 use Rattle.soundness_cells.proofs.PassCellPatterns as cells_of
-use Rattle.soundness_cells.proofs.PassCellPatterns.{Told, Has, made_of_never}
+use Rattle.soundness_cells.proofs.PassCellPatterns.{Told, Has}
 use Rattle.soundness_cells.proofs.PassFacts.{Standpoint, context, with_names, in_a_loop, behind}
-use Rattle.soundness.proofs.PassKnownMatched as matching
-use Rattle.soundness.proofs.PassMadeForms as made
-use Rattle.soundness_values.proofs.PassHeads.{number_is, shape_is}
-use Rattle.soundness_cells.proofs.PassNumbers.{Numbered, numbered_left, numbered_right, own_number}
+use Rattle.soundness_cells.proofs.PassNumbers.{Numbered}
 use Rattle.soundness.proofs.PassPlacesEffects.{q}
 use Rattle.soundness.proofs.PassPlacesMeant as meant
-use Rattle.soundness.proofs.PassPlacesRules.{NoValue}
 use Rattle.soundness.proofs.PassResultRules as rules
 use Rattle.soundness.proofs.PassResultRules.{KeepsWhole}
 use Rattle.soundness_cells.proofs.PassScopes.{key_of}
 use Rattle.soundness_values.proofs.PlaceTypes.{some_holds}
+use Rattle.soundness.proofs.PassResultKinds as pass_result_kinds
+use Rattle.soundness.proofs.PassResultKinds.{off_left, off_right, claimed, as_claimed, less, of_form, head_off, operand_of, one_of, more_of, effect_so, operands_so, gives_unit_so, used_so, passed_so, branch_so, unit_of, truth_of, unit_if_so, bounds_off, same_meaning, inner_off, guard_around, turn_of}
 
 module _ (items : ItemTable) (body : BodyTree) (also : Also) (told : Told items) (fuel z : ℕ)
     (W : Checking Facts → Type 0) (keeps : KeepsWhole (q items body also) z W) where
@@ -83,20 +80,11 @@ module _ (items : ItemTable) (body : BodyTree) (also : Also) (told : Told items)
   abbrev Makes : LoopsAndGuards → Type 0 → Does V → Type 0
   Makes = rules.Makes items r z W keeps
 
-  -- none of these nodes has the key
-  abbrev pub OffN : List Node → Type 0
+  abbrev OffN : List Node → Type 0
   OffN ns = (key : ℕ) → Numbered ns key → key ≡ z → ⊥
 
-  off_left : (a b : List Node) → OffN (a ++ b) → OffN a
-  off_left a b o key n = o key (numbered_left a b key n)
-
-  off_right : (a b : List Node) → OffN (a ++ b) → OffN b
-  off_right a b o key n = o key (numbered_right a b key n)
-
-  -- a node that is evaluated
-  abbrev pub Es : Node → Type 0
-  Es n = (around : LoopsAndGuards) (own : Bool) (to : Destination) →
-      Makes around (key_of to ≡ z) ((N n).evaluate around own to)
+  abbrev Es : Node → Type 0
+  Es = pass_result_kinds.Es items body also told fuel z W keeps
 
   abbrev Rs : Node → Type 0
   Rs n = (around : LoopsAndGuards) → Makes around ⊥ ((N n).reach around)
@@ -104,186 +92,40 @@ module _ (items : ItemTable) (body : BodyTree) (also : Also) (told : Told items)
   abbrev AllE : List (Meaning V) → Type 0
   AllE ms = (around : LoopsAndGuards) → rules.AllMake items r z W keeps around ms
 
-  -- what is claimed of a node of a type: it is made
-  abbrev pub Claim : TyId → Destination → Type 0
+  abbrev Claim : TyId → Destination → Type 0
   Claim ty to = (is_never items ty ≡ false) × (key_of to ≡ z)
 
-  abbrev pub Fs : TyId → Meaning V → Type 0
-  Fs ty m = (around : LoopsAndGuards) (own : Bool) (to : Destination) → Makes around (Claim ty to) (m.evaluate around
-      own to)
-
-  claimed : (id : ℕ) (ty : TyId) (to : Destination) → Claim ty to → key_of (to_own_key (is_never items ty) id to) ≡ z
-  claimed id ty to c = ap (λ b. key_of (to_own_key b id to)) c.0 ∙ c.1
-
-  as_claimed : (around : LoopsAndGuards) (id : ℕ) (ty : TyId) (to : Destination) (does : Does V) →
-      Makes around (key_of (to_own_key (is_never items ty) id to) ≡ z) does → Makes around (Claim ty to) does
-  as_claimed around id ty to does k S v f = rules.as_so items r z W keeps around
-      (key_of (to_own_key (is_never items ty) id to) ≡ z) (Claim ty to) (does S v) (claimed id ty to) (k S v f)
-
-  less : (around : LoopsAndGuards) (A : Type 0) (does : Does V) → Makes around A does → Makes around ⊥ does
-  less = rules.less items r z W keeps
-
-  -- of type `!` there is no value
-  pub by_type : (n : Node) → (is_never items (ty_of n) ≡ true → (around : LoopsAndGuards) (own : Bool) (to :
-      Destination) (S : Scopes) (v : V) → NoValue ((N n).evaluate around own to S v)) → Fs (ty_of n) (N n) → Es n
-  by_type n none e around own to S v f = by (is_never items (ty_of n)) refl
-    where
-      by : (b : Bool) → is_never items (ty_of n) ≡ b →
-          rules.EndsSo items r z W keeps around (key_of to ≡ z) ((N n).evaluate around own to S v)
-      by false m = rules.as_so items r z W keeps around (Claim (ty_of n) to) (key_of to ≡ z)
-          ((N n).evaluate around own to S v) (λ c. (m, c)) (e around own to S v f)
-      by true m = rules.none_so items r z W keeps around (Claim (ty_of n) to) (key_of to ≡ z)
-          ((N n).evaluate around own to S v) (none m around own to S v) (e around own to S v f)
-
-  of_form : (n : Node) (x : Standpoint) (standing : Standing) → Holds (typing.typed (K x) standing n) →
-      H (cells items false n) → Fs (ty_of n) (N n) → Es n
-  of_form n x standing h k e = by_type n (made.never_ends items body also told fuel n x standing h k) e
-
-  head_off : (n : Node) → OffN (nodes_of n) → (N n).head.id ≡ z → ⊥
-  head_off n o e = o (number_of n) (own_number n) (sym (number_is items r fuel n) ∙ e)
-
-  operand_of : (n : Node) → OffN (nodes_of n) → Es n → (around : LoopsAndGuards) →
-      rules.Operand_ items r z W keeps around (N n)
-  operand_of n o e around = (
-    less around _ _ (e around false (Into (N n).head.id)),
-    head_off n o,
-  )
-
-  one_of : (n : Node) → OffN (nodes_of n) → Es n → AllE (N n ∷ [])
-  one_of n o e around = (operand_of n o e around, tt)
-
-  more_of : (n : Node) (ms : List (Meaning V)) → OffN (nodes_of n) → Es n → AllE ms → AllE (N n ∷ ms)
-  more_of n ms o e l around = (operand_of n o e around, l around)
-
-  effect_so : (h : NodeHead) (s : Shape) (action : EffectSite → Action) → rules.Tells items r z W keeps h action →
-      Fs h.ty (evaluation.effect items r fuel h s action)
-  effect_so h s action t around own to = as_claimed around h.id h.ty to _
-      (rules.own_so items r z W keeps around _ h own _
-      (rules.deliver_so items r z W keeps around h action (to_own_key (is_never items h.ty) h.id to) t))
-
-  operands_so : (h : NodeHead) (s : Shape) (ms : List (Meaning V)) (action : EffectSite → Action) → AllE ms →
-      rules.Tells items r z W keeps h action → Fs h.ty (evaluation.on_operands items r fuel h s ms action)
-  operands_so h s ms action e t around own to = as_claimed around h.id h.ty to _
-      (rules.acting_so items r z W keeps around _ h own ms _ (e around)
-      (rules.deliver_so items r z W keeps around h action (to_own_key (is_never items h.ty) h.id to) t))
-
-  gives_unit_so : (h : NodeHead) (s : Shape) (m : Meaning V)
-      (action : Rattle.store_model.specs.Effects.Operand → Action) → AllE (m ∷ []) →
-      Fs h.ty (evaluation.gives_unit items r fuel h s m action)
-  gives_unit_so h s m action e around own to = as_claimed around h.id h.ty to _
-      (rules.acting_so items r z W keeps around _ h own (m ∷ []) _ (e around)
-      (rules.both_so items r z W keeps around _ _ _ (rules.acts_so items r z W keeps around (action (moved h.id
-      m.head.id))) (rules.unit_so items r z W keeps around h (to_own_key (is_never items h.ty) h.id to))))
-
-  used_so : (form : Form) (id : ℕ) (ty : TyId) (by : Option Use) (reach_ : LoopsAndGuards → Does V) →
-      ((around : LoopsAndGuards) → Makes around ⊥ (reach_ around)) →
-      Fs ty (evaluation.a_place items r fuel (head id ty by) (shape_of items form (head id ty by)) reach_)
-  used_so form id ty by reach_ k around own to = as_claimed around id ty to _
-      (rules.own_so items r z W keeps around _ (head id ty by) own _
-      (rules.both_so items r z W keeps around _ (reach_ around) _ (k around)
-      (rules.deliver_so items r z W keeps around (head id ty by)
-      (λ site. effects.Put site (operand_at (head id ty by) ((shape_of items form (head id ty by)).place
-      around.aliases))) (to_own_key (is_never items ty) id to) (λ key. (id, refl)))))
-
-  passed_so : (tys : List TyId) (first : Node) (rest : Nodes) (x : Standpoint) →
-      Holds (typing.first_and_rest (λ t. typing.typed (K x) (Passed t) first) (λ ts. typing.arguments (K x) ts rest)
-      tys) → OffN (nodes_of first) → ((t : TyId) → Holds (typing.typed (K x) (Passed t) first) → Es first) →
-      ((ts : List TyId) → Holds (typing.arguments (K x) ts rest) → AllE (Ns rest)) → AllE (N first ∷ Ns rest)
-  passed_so [] first rest x h o f e = absurd (false≢true h)
-  passed_so (ty ∷ tys) first rest x h o f e = more_of first (Ns rest) o (f ty h.0) (e tys h.1)
-
-  -- a branch goes where the whole does
-  branch_so : (around : LoopsAndGuards) (id : ℕ) (ty : TyId) (to : Destination) (n : Node) → Es n →
-      Makes around (Claim ty to) (forms.alone items r around (N n) (to_own_key (is_never items ty) id to))
-  branch_so around id ty to n e = as_claimed around id ty to _ (rules.alone_so items r z W keeps around _ (N n)
-      (to_own_key (is_never items ty) id to) (e around true (to_own_key (is_never items ty) id to)))
-
-  unit_of : (around : LoopsAndGuards) (id : ℕ) (ty : TyId) (by : Option Use) (to : Destination) →
-      Makes around (Claim ty to) (forms.put_unit items r (head id ty by) (to_own_key (is_never items ty) id to))
-  unit_of around id ty by to = as_claimed around id ty to _
-      (rules.unit_so items r z W keeps around (head id ty by) (to_own_key (is_never items ty) id to))
-
-  truth_of : (around : LoopsAndGuards) (id : ℕ) (ty : TyId) (by : Option Use) (to : Destination) (truth : Bool) →
-      Makes around (Claim ty to) (evaluation.shortcut items r fuel (head id ty by) truth (to_own_key (is_never items
-      ty) id to))
-  truth_of around id ty by to truth = as_claimed around id ty to _ (rules.deliver_so items r z W keeps around (head id
-      ty by) (λ site. effects.Put site (effects.Truth truth)) (to_own_key (is_never items ty) id to) (λ key. (
-        id,
-        refl,
-      )))
-
-  unit_if_so : (around : LoopsAndGuards) (id : ℕ) (ty : TyId) (by : Option Use) (to : Destination) (b : Bool) →
-      is_never items ty ≡ b →
-      Makes around (Claim ty to) (forms.put_unit_if items r b (head id ty by) (to_own_key (is_never items ty) id to))
-  unit_if_so around id ty by to true e S v f = (f, λ c. absurd (false≢true (sym c.0 ∙ e)))
-  unit_if_so around id ty by to false e S v f = unit_of around id ty by to S v f
-
-  -- the cells of names
-  pub names_off : (p : Node) (place : Place) → OffN (nodes_of p) →
-      rules.AllOff items r z W keeps ((shape items p).bindings place)
-  names_off p place o = all ((shape items p).bindings place)
-      (matching.names_each items (λ at_. Unit {0}) (λ at_ step u e. tt) p place tt)
-    where
-      all : (bounds : List BoundName) → matching.Each items (λ at_. Unit {0}) (λ at_ step u e. tt) (nodes_of p) bounds →
-          rules.AllOff items r z W keeps bounds
-      all [] e = tt
-      all (b ∷ bounds) e = (o b.key e.0.1, all bounds e.1)
-
-  bounds_off : (p : Node) (place : Place) → OffN (nodes_of p) →
-      rules.AllOff items r z W keeps ((N p).shape.bindings place)
-  bounds_off p place o = subst (λ (s : Shape). rules.AllOff items r z W keeps (s.bindings place))
-      (sym (shape_is items r fuel p)) (names_off p place o)
-
-  same_meaning : (a b : Meaning V) → Some a ≡ Some b → a ≡ b
-  same_meaning a b e = Rattle.std.proofs.lemmas.Option.same_Some a b e
-
-  inner_off : (n : Node) → OffN (nodes_of n) → OffN (nodes_in (form_of n))
-  inner_off (node id at ty by form) o key n = o key (inr n)
-
-  -- what is asked of the loops and of the result is the same in a guard
-  guard_around : (bounds : List BoundName) (around : LoopsAndGuards) (a : Run V) →
-      rules.EndsSo items r z W keeps (forms.in_guard bounds around) ⊥ a → rules.EndsSo items r z W keeps around ⊥ a
-  guard_around bounds around (At Value S v) h = h
-  guard_around bounds around (At (Breaks loop) S v) h = h
-  guard_around bounds around (At (Continues loop) S v) h = h
-  guard_around bounds around (At Returns S v) h = h
-  guard_around bounds around (At Panics S v) h = tt
-  guard_around bounds around (Over halt v) h = tt
-
-  -- a turn of a loop
-  turn_of : (n : Node) → Es n → (around : LoopsAndGuards) →
-      Makes around ⊥ (forms.alone items r around (N n) (Into (N n).head.id))
-  turn_of n e around = rules.alone_so items r z W keeps around ⊥ (N n) (Into (N n).head.id)
-      (less around _ _ (e around true (Into (N n).head.id)))
+  abbrev Fs : TyId → Meaning V → Type 0
+  Fs = pass_result_kinds.Fs items body also told fuel z W keeps
 
   -- ---- the forms
 
   mutual
     pub node_whole : (n : Node) (x : Standpoint) (standing : Standing) → Holds (typing.typed (K x) standing n) →
         H (cells items false n) → OffN (nodes_of n) → Es n
-    node_whole (node id at ty by form) x standing h k o = of_form (node id at ty by form) x standing h k
+    node_whole (node id at ty by form) x standing h k o = of_form items body also told fuel z W keeps (node id at ty by form) x standing h k
         (form_whole form x id ty by h.1 (cells_of.inside items body false (node id at ty by form) k)
-        (inner_off (node id at ty by form) o))
+        (inner_off items body also told fuel z W keeps (node id at ty by form) o))
 
     pub own_whole : (n : Node) (x : Standpoint) (standing : Standing) → Holds (typing.typed (K x) standing n) →
         H (cells items true n) → OffN (nodes_of n) → Es n
-    own_whole (node id at ty by form) x standing h k o = of_form (node id at ty by form) x standing h
+    own_whole (node id at ty by form) x standing h k o = of_form items body also told fuel z W keeps (node id at ty by form) x standing h
         (cells_of.fewer items body (node id at ty by form) k)
         (form_whole form x id ty by h.1 (cells_of.inside items body true (node id at ty by form) k)
-        (inner_off (node id at ty by form) o))
+        (inner_off items body also told fuel z W keeps (node id at ty by form) o))
 
     node_reached : (n : Node) (x : Standpoint) (standing : Standing) → Holds (typing.typed (K x) standing n) →
         H (reached_cells items n) → OffN (nodes_of n) → Rs n
     node_reached (node id at ty by form) x standing h k o =
         at_nodes.either_reached items body told fuel (is_place form) form refl
         (λ p around S v. place_reached form x id ty by h.1 p
-        (cells_of.reached_inside items body (node id at ty by form) k) (inner_off (node id at ty by form) o) around S v)
+        (cells_of.reached_inside items body (node id at ty by form) k) (inner_off items body also told fuel z W keeps (node id at ty by form) o) around S v)
         (λ p around S v. subst (λ (reach_ : LoopsAndGuards → Does V). Makes around ⊥ (reach_ around))
         (sym (meant.temporary_meant items (q items body also) fuel form id ty by p))
         (rules.temporary_so items r z W keeps around (F form id ty by).head (F form id ty by).shape
-        (F form id ty by).evaluate (head_off (node id at ty by form) o)
-        (less around _ _ (form_whole form x id ty by h.1
-        (cells_of.reached_inside items body (node id at ty by form) k) (inner_off (node id at ty by form) o)
+        (F form id ty by).evaluate (head_off items body also told fuel z W keeps (node id at ty by form) o)
+        (less items body also told fuel z W keeps around _ _ (form_whole form x id ty by h.1
+        (cells_of.reached_inside items body (node id at ty by form) k) (inner_off items body also told fuel z W keeps (node id at ty by form) o)
         around false (Into (F form id ty by).head.id)))) S v)
 
     place_reached : (form : Form) (x : Standpoint) (id : ℕ) (ty : TyId) (by : Option Use) →
@@ -296,103 +138,103 @@ module _ (items : ItemTable) (body : BodyTree) (also : Also) (told : Told items)
         rules.element_so items r z W keeps around (head id ty by)
         (shape_of items (tree.Index base index count) (head id ty by)) (N base) (N index) count
         (node_reached base x Base h.0 (left (reached_cells items base) (cells items true index) k)
-        (off_left (nodes_of base) (nodes_of index) o) around)
-        (less around _ _ (own_whole index x Taken h.1.0 (right (reached_cells items base) (cells items true index) k)
-        (off_right (nodes_of base) (nodes_of index) o) around false (Into (N index).head.id)))
+        (off_left items body also told fuel z W keeps (nodes_of base) (nodes_of index) o) around)
+        (less items body also told fuel z W keeps around _ _ (own_whole index x Taken h.1.0 (right (reached_cells items base) (cells items true index) k)
+        (off_right items body also told fuel z W keeps (nodes_of base) (nodes_of index) o) around false (Into (N index).head.id)))
     place_reached (tree.Deref base) x id ty by h p k o around = node_reached base x Base h.0 k o around
     place_reached form x id ty by h p k o around = absurd (false≢true p)
 
     pub form_whole : (form : Form) (x : Standpoint) (id : ℕ) (ty : TyId) (by : Option Use) →
         Holds (typing.row (K x) id ty form) → H (cells_in items form) → OffN (nodes_in form) → Fs ty (F form id ty by)
-    form_whole (tree.Number value) x id ty by h k o around own to = effect_so (head id ty by)
+    form_whole (tree.Number value) x id ty by h k o around own to = effect_so items body also told fuel z W keeps (head id ty by)
         (shape_of items (tree.Number value) (head id ty by))
         (λ site. effects.Put site (effects.Number value (kind_of items ty))) (λ key. (id, refl)) around own to
-    form_whole (tree.Truth value) x id ty by h k o around own to = effect_so (head id ty by)
+    form_whole (tree.Truth value) x id ty by h k o around own to = effect_so items body also told fuel z W keeps (head id ty by)
         (shape_of items (tree.Truth value) (head id ty by)) (λ site. effects.Put site (effects.Truth value))
         (λ key. (id, refl)) around own to
-    form_whole tree.UnitValue x id ty by h k o around own to = effect_so (head id ty by)
+    form_whole tree.UnitValue x id ty by h k o around own to = effect_so items body also told fuel z W keeps (head id ty by)
         (shape_of items tree.UnitValue (head id ty by)) (λ site. effects.Put site effects.UnitValue)
         (λ key. (id, refl)) around own to
-    form_whole (tree.Variable key) x id ty by h k o around own to = used_so (tree.Variable key) id ty by
+    form_whole (tree.Variable key) x id ty by h k o around own to = used_so items body also told fuel z W keeps (tree.Variable key) id ty by
         (F (tree.Variable key) id ty by).reach (λ around S v f. (f, λ b. absurd b)) around own to
     form_whole (tree.Captured closure part name) x id ty by h k o around own to =
-        used_so (tree.Captured closure part name) id ty by
+        used_so items body also told fuel z W keeps (tree.Captured closure part name) id ty by
         (F (tree.Captured closure part name) id ty by).reach (λ around S v f. (f, λ b. absurd b)) around own to
-    form_whole (tree.Field base part) x id ty by h k o around own to = used_so (tree.Field base part) id ty by
+    form_whole (tree.Field base part) x id ty by h k o around own to = used_so items body also told fuel z W keeps (tree.Field base part) id ty by
         (F (tree.Field base part) id ty by).reach (node_reached base x Base h.0 k o) around own to
     form_whole (tree.Index base index count) x id ty by h k o around own to =
-        used_so (tree.Index base index count) id ty by
+        used_so items body also told fuel z W keeps (tree.Index base index count) id ty by
         (F (tree.Index base index count) id ty by).reach (λ around. rules.element_so items r z W keeps around (head id
         ty by) (shape_of items (tree.Index base index count) (head id ty by)) (N base) (N index) count
         (node_reached base x Base h.0 (left (reached_cells items base) (cells items true index) k)
-        (off_left (nodes_of base) (nodes_of index) o) around)
-        (less around _ _ (own_whole index x Taken h.1.0 (right (reached_cells items base) (cells items true index) k)
-        (off_right (nodes_of base) (nodes_of index) o) around false (Into (N index).head.id)))) around own to
-    form_whole (tree.Deref base) x id ty by h k o around own to = used_so (tree.Deref base) id ty by
+        (off_left items body also told fuel z W keeps (nodes_of base) (nodes_of index) o) around)
+        (less items body also told fuel z W keeps around _ _ (own_whole index x Taken h.1.0 (right (reached_cells items base) (cells items true index) k)
+        (off_right items body also told fuel z W keeps (nodes_of base) (nodes_of index) o) around false (Into (N index).head.id)))) around own to
+    form_whole (tree.Deref base) x id ty by h k o around own to = used_so items body also told fuel z W keeps (tree.Deref base) id ty by
         (F (tree.Deref base) id ty by).reach (node_reached base x Base h.0 k o) around own to
-    form_whole (tree.Not operand) x id ty by h k o around own to = operands_so (head id ty by)
+    form_whole (tree.Not operand) x id ty by h k o around own to = operands_so items body also told fuel z W keeps (head id ty by)
         (shape_of items (tree.Not operand) (head id ty by)) (N operand ∷ [])
         (λ site. effects.Not site (moved id (N operand).head.id))
-        (one_of operand o (own_whole operand x Taken h.0 k o)) (λ key. (id, refl)) around own to
-    form_whole (tree.Negate operand) x id ty by h k o around own to = operands_so (head id ty by)
+        (one_of items body also told fuel z W keeps operand o (own_whole operand x Taken h.0 k o)) (λ key. (id, refl)) around own to
+    form_whole (tree.Negate operand) x id ty by h k o around own to = operands_so items body also told fuel z W keeps (head id ty by)
         (shape_of items (tree.Negate operand) (head id ty by)) (N operand ∷ [])
         (λ site. effects.Negate site (moved id (N operand).head.id))
-        (one_of operand o (own_whole operand x Taken h.0 k o)) (λ key. (id, refl)) around own to
-    form_whole (tree.Arithmetic operator a b) x id ty by h k o around own to = operands_so (head id ty by)
+        (one_of items body also told fuel z W keeps operand o (own_whole operand x Taken h.0 k o)) (λ key. (id, refl)) around own to
+    form_whole (tree.Arithmetic operator a b) x id ty by h k o around own to = operands_so items body also told fuel z W keeps (head id ty by)
         (shape_of items (tree.Arithmetic operator a b) (head id ty by)) (N a ∷ N b ∷ [])
         (λ site. effects.Compute site operator (moved id (N a).head.id) (moved id (N b).head.id))
-        (more_of a (N b ∷ []) (off_left (nodes_of a) (nodes_of b) o)
+        (more_of items body also told fuel z W keeps a (N b ∷ []) (off_left items body also told fuel z W keeps (nodes_of a) (nodes_of b) o)
         (own_whole a x (Wanted ty) h.0 (left (cells items true a) (cells items true b) k)
-        (off_left (nodes_of a) (nodes_of b) o)) (one_of b (off_right (nodes_of a) (nodes_of b) o)
+        (off_left items body also told fuel z W keeps (nodes_of a) (nodes_of b) o)) (one_of items body also told fuel z W keeps b (off_right items body also told fuel z W keeps (nodes_of a) (nodes_of b) o)
         (own_whole b x (Wanted ty) h.1.0 (right (cells items true a) (cells items true b) k)
-        (off_right (nodes_of a) (nodes_of b) o)))) (λ key. (id, refl)) around own to
-    form_whole (tree.Comparison operator a b) x id ty by h k o around own to = operands_so (head id ty by)
+        (off_right items body also told fuel z W keeps (nodes_of a) (nodes_of b) o)))) (λ key. (id, refl)) around own to
+    form_whole (tree.Comparison operator a b) x id ty by h k o around own to = operands_so items body also told fuel z W keeps (head id ty by)
         (shape_of items (tree.Comparison operator a b) (head id ty by)) (N a ∷ N b ∷ [])
         (λ site. effects.Compare site operator (moved id (N a).head.id) (moved id (N b).head.id))
-        (more_of a (N b ∷ []) (off_left (nodes_of a) (nodes_of b) o)
+        (more_of items body also told fuel z W keeps a (N b ∷ []) (off_left items body also told fuel z W keeps (nodes_of a) (nodes_of b) o)
         (own_whole a x Taken h.0 (left (cells items true a) (cells items true b) k)
-        (off_left (nodes_of a) (nodes_of b) o)) (one_of b (off_right (nodes_of a) (nodes_of b) o)
+        (off_left items body also told fuel z W keeps (nodes_of a) (nodes_of b) o)) (one_of items body also told fuel z W keeps b (off_right items body also told fuel z W keeps (nodes_of a) (nodes_of b) o)
         (own_whole b x Taken h.1.0 (right (cells items true a) (cells items true b) k)
-        (off_right (nodes_of a) (nodes_of b) o)))) (λ key. (id, refl)) around own to
+        (off_right items body also told fuel z W keeps (nodes_of a) (nodes_of b) o)))) (λ key. (id, refl)) around own to
     form_whole (tree.And a b) x id ty by h k o around own to =
         rules.own_so items r z W keeps around _ (head id ty by) own _
         (rules.condition_so items r z W keeps around _ around (N a) _ _
-        (less around _ _ (own_whole a x Taken h.0 (left (cells items true a) (cells items false b) k)
-        (off_left (nodes_of a) (nodes_of b) o) around true (Into (N a).head.id)))
-        (branch_so around id ty to b (node_whole b x Taken h.1.0 (right (cells items true a) (cells items false b) k)
-        (off_right (nodes_of a) (nodes_of b) o))) (truth_of around id ty by to false))
+        (less items body also told fuel z W keeps around _ _ (own_whole a x Taken h.0 (left (cells items true a) (cells items false b) k)
+        (off_left items body also told fuel z W keeps (nodes_of a) (nodes_of b) o) around true (Into (N a).head.id)))
+        (branch_so items body also told fuel z W keeps around id ty to b (node_whole b x Taken h.1.0 (right (cells items true a) (cells items false b) k)
+        (off_right items body also told fuel z W keeps (nodes_of a) (nodes_of b) o))) (truth_of items body also told fuel z W keeps around id ty by to false))
     form_whole (tree.Or a b) x id ty by h k o around own to =
         rules.own_so items r z W keeps around _ (head id ty by) own _
         (rules.condition_so items r z W keeps around _ around (N a) _ _
-        (less around _ _ (own_whole a x Taken h.0 (left (cells items true a) (cells items false b) k)
-        (off_left (nodes_of a) (nodes_of b) o) around true (Into (N a).head.id))) (truth_of around id ty by to true)
-        (branch_so around id ty to b (node_whole b x Taken h.1.0 (right (cells items true a) (cells items false b) k)
-        (off_right (nodes_of a) (nodes_of b) o))))
-    form_whole (tree.Assign target value) x id ty by h k o around own to = as_claimed around id ty to _
+        (less items body also told fuel z W keeps around _ _ (own_whole a x Taken h.0 (left (cells items true a) (cells items false b) k)
+        (off_left items body also told fuel z W keeps (nodes_of a) (nodes_of b) o) around true (Into (N a).head.id))) (truth_of items body also told fuel z W keeps around id ty by to true)
+        (branch_so items body also told fuel z W keeps around id ty to b (node_whole b x Taken h.1.0 (right (cells items true a) (cells items false b) k)
+        (off_right items body also told fuel z W keeps (nodes_of a) (nodes_of b) o))))
+    form_whole (tree.Assign target value) x id ty by h k o around own to = as_claimed items body also told fuel z W keeps around id ty to _
         (rules.assigning_so items r z W keeps around (head id ty by) (N target) (N value) own
         (to_own_key (is_never items ty) id to)
-        (operand_of value (off_right (nodes_of target) (nodes_of value) o) (own_whole value x (Wanted (ty_of target))
+        (operand_of items body also told fuel z W keeps value (off_right items body also told fuel z W keeps (nodes_of target) (nodes_of value) o) (own_whole value x (Wanted (ty_of target))
         h.1.1.0 (right (reached_cells items target) (cells items true value) k)
-        (off_right (nodes_of target) (nodes_of value) o)) around)
+        (off_right items body also told fuel z W keeps (nodes_of target) (nodes_of value) o)) around)
         (node_reached target x Stored h.0 (left (reached_cells items target) (cells items true value) k)
-        (off_left (nodes_of target) (nodes_of value) o) around))
+        (off_left items body also told fuel z W keeps (nodes_of target) (nodes_of value) o) around))
     form_whole (tree.Call callee args) x id ty by h k o around own to =
         let t = some_holds (slice_get items.bodies callee)
         (λ sig. both (fact (types.is_same ty sig.result)) (typing.arguments (K x) sig.params args)) h.0 in
-        operands_so (head id ty by) (shape_of items (tree.Call callee args) (head id ty by)) (Ns args)
+        operands_so items body also told fuel z W keeps (head id ty by) (shape_of items (tree.Call callee args) (head id ty by)) (Ns args)
         (λ site. effects.Call site callee (all_moved id (Ns args))) (args_whole t.0.params args x t.1.1.1 k o)
         (λ key. (id, refl)) around own to
     form_whole (tree.MethodCall callee receiver args) x id ty by h k o around own to =
         let t = some_holds (slice_get items.bodies callee) (λ sig. both (fact (types.is_same ty sig.result))
         (typing.first_and_rest (λ t. typing.typed (K x) (Passed t) receiver) (λ ts. typing.arguments (K x) ts args)
         sig.params)) h.0 in
-        operands_so (head id ty by) (shape_of items (tree.MethodCall callee receiver args) (head id ty by))
+        operands_so items body also told fuel z W keeps (head id ty by) (shape_of items (tree.MethodCall callee receiver args) (head id ty by))
         (N receiver ∷ Ns args) (λ site. effects.Call site callee (all_moved id (N receiver ∷ Ns args)))
-        (passed_so t.0.params receiver args x t.1.1.1 (off_left (nodes_of receiver) (nodes_among args) o)
+        (passed_so items body also told fuel z W keeps t.0.params receiver args x t.1.1.1 (off_left items body also told fuel z W keeps (nodes_of receiver) (nodes_among args) o)
         (λ t' j. own_whole receiver x (Passed t') j (left (cells items true receiver) (all_cells items args) k)
-        (off_left (nodes_of receiver) (nodes_among args) o))
+        (off_left items body also told fuel z W keeps (nodes_of receiver) (nodes_among args) o))
         (λ ts j. args_whole ts args x j (right (cells items true receiver) (all_cells items args) k)
-        (off_right (nodes_of receiver) (nodes_among args) o))) (λ key. (id, refl)) around own to
+        (off_right items body also told fuel z W keeps (nodes_of receiver) (nodes_among args) o))) (λ key. (id, refl)) around own to
     form_whole (tree.VirtualCall trait_no method receiver args) x id ty by h k o around own to =
         let d = some_holds (slice_get items.traits trait_no) (λ def. Rattle.well_typed.specs.Claim.some
         (slice_get def.methods method) (λ sig. both (fact (types.is_same ty sig.result))
@@ -401,70 +243,70 @@ module _ (items : ItemTable) (body : BodyTree) (also : Also) (told : Told items)
         let t = some_holds (slice_get d.0.methods method) (λ sig. both (fact (types.is_same ty sig.result))
         (typing.first_and_rest (λ t. typing.typed (K x) (Passed t) receiver) (λ ts. typing.arguments (K x) ts args)
         sig.params)) d.1.1 in
-        operands_so (head id ty by) (shape_of items (tree.VirtualCall trait_no method receiver args) (head id ty by))
+        operands_so items body also told fuel z W keeps (head id ty by) (shape_of items (tree.VirtualCall trait_no method receiver args) (head id ty by))
         (N receiver ∷ Ns args) (λ site. effects.CallVirtual site trait_no method (all_moved id (N receiver ∷ Ns args)))
-        (passed_so t.0.params receiver args x t.1.1.1 (off_left (nodes_of receiver) (nodes_among args) o)
+        (passed_so items body also told fuel z W keeps t.0.params receiver args x t.1.1.1 (off_left items body also told fuel z W keeps (nodes_of receiver) (nodes_among args) o)
         (λ t' j. own_whole receiver x (Passed t') j (left (cells items true receiver) (all_cells items args) k)
-        (off_left (nodes_of receiver) (nodes_among args) o))
+        (off_left items body also told fuel z W keeps (nodes_of receiver) (nodes_among args) o))
         (λ ts j. args_whole ts args x j (right (cells items true receiver) (all_cells items args) k)
-        (off_right (nodes_of receiver) (nodes_among args) o))) (λ key. (id, refl)) around own to
+        (off_right items body also told fuel z W keeps (nodes_of receiver) (nodes_among args) o))) (λ key. (id, refl)) around own to
     form_whole (tree.ClosureCall callee inside args) x id ty by h k o around own to =
         let t = some_holds (slice_get items.bodies callee) (λ sig. both (fact (types.is_same ty sig.result))
         (typing.first_and_rest (λ t. typing.typed (K x) (Passed t) inside) (λ ts. typing.arguments (K x) ts args)
         sig.params)) h.0 in
-        operands_so (head id ty by) (shape_of items (tree.ClosureCall callee inside args) (head id ty by))
+        operands_so items body also told fuel z W keeps (head id ty by) (shape_of items (tree.ClosureCall callee inside args) (head id ty by))
         (N inside ∷ Ns args) (λ site. effects.Call site callee (all_moved id (N inside ∷ Ns args)))
-        (passed_so t.0.params inside args x t.1.1.1 (off_left (nodes_of inside) (nodes_among args) o)
+        (passed_so items body also told fuel z W keeps t.0.params inside args x t.1.1.1 (off_left items body also told fuel z W keeps (nodes_of inside) (nodes_among args) o)
         (λ t' j. own_whole inside x (Passed t') j (left (cells items true inside) (all_cells items args) k)
-        (off_left (nodes_of inside) (nodes_among args) o))
+        (off_left items body also told fuel z W keeps (nodes_of inside) (nodes_among args) o))
         (λ ts j. args_whole ts args x j (right (cells items true inside) (all_cells items args) k)
-        (off_right (nodes_of inside) (nodes_among args) o))) (λ key. (id, refl)) around own to
+        (off_right items body also told fuel z W keeps (nodes_of inside) (nodes_among args) o))) (λ key. (id, refl)) around own to
     form_whole (tree.Make adt variant fields) x id ty by h k o around own to =
         let t = some_holds (types.variant_at items adt variant) (λ v. both
         (fact (are_distinct_numbers (patterns.field_numbers fields)
         && length (patterns.field_numbers fields) == length v.fields))
         (typing.made_fields (K x) v.fields fields)) h.1 in
-        operands_so (head id ty by) (shape_of items (tree.Make adt variant fields) (head id ty by))
+        operands_so items body also told fuel z W keeps (head id ty by) (shape_of items (tree.Make adt variant fields) (head id ty by))
         (values_of (Nf fields))
         (λ site. effects.Build site (OfVariant adt variant) (all_moved id (values_of (in_number_order (Nf fields)))))
         (fields_whole t.0.fields fields x t.1.1.1 k o) (λ key. (id, refl)) around own to
     form_whole (tree.Tuple parts) x id ty by h k o around own to =
         let t = some_holds (types.tuple_of items ty) (λ tys. typing.made_parts (K x) tys parts) h in
-        operands_so (head id ty by) (shape_of items (tree.Tuple parts) (head id ty by)) (Ns parts)
+        operands_so items body also told fuel z W keeps (head id ty by) (shape_of items (tree.Tuple parts) (head id ty by)) (Ns parts)
         (λ site. effects.Build site OfTuple (all_moved id (Ns parts))) (parts_whole t.0 parts x t.1.1 k o)
         (λ key. (id, refl)) around own to
     form_whole (tree.Array elements) x id ty by h k o around own to =
         let t = some_holds (types.array_of items ty) (λ a. both (fact (patterns.count_of elements == a.1))
         (typing.elements_of (K x) a.0 elements)) h in
-        operands_so (head id ty by) (shape_of items (tree.Array elements) (head id ty by)) (Ns elements)
+        operands_so items body also told fuel z W keeps (head id ty by) (shape_of items (tree.Array elements) (head id ty by)) (Ns elements)
         (λ site. effects.Build site OfArray (all_moved id (Ns elements))) (elements_whole t.0.0 elements x t.1.1.1 k o)
         (λ key. (id, refl)) around own to
     form_whole (tree.Closure closure captures) x id ty by h k o around own to =
         let t = some_holds (slice_get items.closures closure) (λ def. typing.captured (K x) def.captures captures) h.1
         in
-        operands_so (head id ty by) (shape_of items (tree.Closure closure captures) (head id ty by)) (Ns captures)
+        operands_so items body also told fuel z W keeps (head id ty by) (shape_of items (tree.Closure closure captures) (head id ty by)) (Ns captures)
         (λ site. effects.Build site (OfClosure closure) (all_moved id (Ns captures)))
         (captures_whole t.0.captures captures x t.1.1 k o) (λ key. (id, refl)) around own to
     form_whole (tree.NewBox content) x id ty by h k o around own to =
         let t = some_holds (types.boxed_of items ty) (λ inside. both (typing.typed (K x) (Wanted inside) content)
         (fact (not (types.is_dyn items inside)))) h in
-        operands_so (head id ty by) (shape_of items (tree.NewBox content) (head id ty by)) (N content ∷ [])
+        operands_so items body also told fuel z W keeps (head id ty by) (shape_of items (tree.NewBox content) (head id ty by)) (N content ∷ [])
         (λ site. effects.NewBox site (moved id (N content).head.id))
-        (one_of content o (own_whole content x (Wanted t.0) t.1.1.0 k o)) (λ key. (id, refl)) around own to
-    form_whole (tree.Print operand) x id ty by h k o around own to = gives_unit_so (head id ty by)
+        (one_of items body also told fuel z W keeps content o (own_whole content x (Wanted t.0) t.1.1.0 k o)) (λ key. (id, refl)) around own to
+    form_whole (tree.Print operand) x id ty by h k o around own to = gives_unit_so items body also told fuel z W keeps (head id ty by)
         (shape_of items (tree.Print operand) (head id ty by)) (N operand) effects.Print
-        (one_of operand o (own_whole operand x Taken h.0 k o)) around own to
-    form_whole tree.Ask x id ty by h k o around own to = effect_so (head id ty by)
+        (one_of items body also told fuel z W keeps operand o (own_whole operand x Taken h.0 k o)) around own to
+    form_whole tree.Ask x id ty by h k o around own to = effect_so items body also told fuel z W keeps (head id ty by)
         (shape_of items tree.Ask (head id ty by)) effects.Ask (λ key. (id, refl)) around own to
-    form_whole (tree.DropValue operand) x id ty by h k o around own to = as_claimed around id ty to _
+    form_whole (tree.DropValue operand) x id ty by h k o around own to = as_claimed items body also told fuel z W keeps around id ty to _
         (rules.dropping_so items r z W keeps around _ (head id ty by) own (N operand) _
-        (operand_of operand o (own_whole operand x Taken h.0 k o) around)
+        (operand_of items body also told fuel z W keeps operand o (own_whole operand x Taken h.0 k o) around)
         (rules.unit_so items r z W keeps around (head id ty by) (to_own_key (is_never items ty) id to)))
-    form_whole (tree.Forget operand) x id ty by h k o around own to = gives_unit_so (head id ty by)
+    form_whole (tree.Forget operand) x id ty by h k o around own to = gives_unit_so items body also told fuel z W keeps (head id ty by)
         (shape_of items (tree.Forget operand) (head id ty by)) (N operand) effects.Forget
-        (one_of operand o (own_whole operand x Taken h.0 k o)) around own to
+        (one_of items body also told fuel z W keeps operand o (own_whole operand x Taken h.0 k o)) around own to
     form_whole tree.Panic x id ty by h k o around own to = λ S v f. tt
-    form_whole (tree.Borrow unique base) x id ty by h k o around own to = as_claimed around id ty to _
+    form_whole (tree.Borrow unique base) x id ty by h k o around own to = as_claimed items body also told fuel z W keeps around id ty to _
         (rules.own_so items r z W keeps around _ (head id ty by) own _ (rules.both_so items r z W keeps around _ _ _
         (node_reached base x (Used (borrow_by unique)) h.0 k o around)
         (rules.deliver_so items r z W keeps around (head id ty by)
@@ -473,98 +315,98 @@ module _ (items : ItemTable) (body : BodyTree) (also : Also) (told : Told items)
     form_whole (tree.Unsize trait_no operand) x id ty by h k o around own to = λ S v f.
         let into = to_own_key (is_never items ty) id to in
         rules.as_so items r z W keeps around (key_of (coerced (N operand).head.id trait_no into) ≡ z) (Claim ty to) _
-        (λ c. rules.coerced_same items r z W keeps (N operand).head.id trait_no into ∙ claimed id ty to c)
+        (λ c. rules.coerced_same items r z W keeps (N operand).head.id trait_no into ∙ claimed items body also told fuel z W keeps id ty to c)
         (own_whole operand x Taken h.0 k o around own (coerced (N operand).head.id trait_no into) S v f)
     form_whole (tree.Block stmts tail) x id ty by h k o around own to =
         rules.block_so items r z W keeps around (Claim ty to) (head id ty by) (Ns stmts) (Ni tail) own
         (to_own_key (is_never items ty) id to)
         (statements_whole stmts x (λ d. typing.tail_of d tail) h.0
         (left (all_cells items stmts) (cells_if_any items false tail) k)
-        (off_left (nodes_among stmts) (nodes_if_any tail) o) around)
+        (off_left items body also told fuel z W keeps (nodes_among stmts) (nodes_if_any tail) o) around)
         (tail_whole tail (behind x stmts) id ty by (at_nodes.behind_holds items body told fuel stmts x
         (λ d. typing.tail_of d tail) h.0) (right (all_cells items stmts) (cells_if_any items false tail) k)
-        (off_right (nodes_among stmts) (nodes_if_any tail) o) around to)
+        (off_right items body also told fuel z W keeps (nodes_among stmts) (nodes_if_any tail) o) around to)
     form_whole (tree.If test consequent absent) x id ty by h k o around own to =
         let kc = left (cells items true test ++ cells items false consequent) [] k in
-        let oc = off_left (nodes_of test ++ nodes_of consequent) [] o in
+        let oc = off_left items body also told fuel z W keeps (nodes_of test ++ nodes_of consequent) [] o in
         rules.own_so items r z W keeps around _ (head id ty by) own _
         (rules.condition_so items r z W keeps around _ around (N test) _ _
-        (less around _ _ (own_whole test x Taken h.0 (left (cells items true test) (cells items false consequent) kc)
-        (off_left (nodes_of test) (nodes_of consequent) oc) around true (Into (N test).head.id)))
-        (branch_so around id ty to consequent (node_whole consequent x Taken h.1.1.0
+        (less items body also told fuel z W keeps around _ _ (own_whole test x Taken h.0 (left (cells items true test) (cells items false consequent) kc)
+        (off_left items body also told fuel z W keeps (nodes_of test) (nodes_of consequent) oc) around true (Into (N test).head.id)))
+        (branch_so items body also told fuel z W keeps around id ty to consequent (node_whole consequent x Taken h.1.1.0
         (right (cells items true test) (cells items false consequent) kc)
-        (off_right (nodes_of test) (nodes_of consequent) oc))) (unit_of around id ty by to))
+        (off_right items body also told fuel z W keeps (nodes_of test) (nodes_of consequent) oc))) (unit_of items body also told fuel z W keeps around id ty by to))
     form_whole (tree.If test consequent (present otherwise)) x id ty by h k o around own to =
         let kc = left (cells items true test ++ cells items false consequent) (cells items false otherwise) k in
-        let oc = off_left (nodes_of test ++ nodes_of consequent) (nodes_of otherwise) o in
+        let oc = off_left items body also told fuel z W keeps (nodes_of test ++ nodes_of consequent) (nodes_of otherwise) o in
         rules.own_so items r z W keeps around _ (head id ty by) own _
         (rules.condition_so items r z W keeps around _ around (N test) _ _
-        (less around _ _ (own_whole test x Taken h.0 (left (cells items true test) (cells items false consequent) kc)
-        (off_left (nodes_of test) (nodes_of consequent) oc) around true (Into (N test).head.id)))
-        (branch_so around id ty to consequent (node_whole consequent x Taken h.1.1.0
+        (less items body also told fuel z W keeps around _ _ (own_whole test x Taken h.0 (left (cells items true test) (cells items false consequent) kc)
+        (off_left items body also told fuel z W keeps (nodes_of test) (nodes_of consequent) oc) around true (Into (N test).head.id)))
+        (branch_so items body also told fuel z W keeps around id ty to consequent (node_whole consequent x Taken h.1.1.0
         (right (cells items true test) (cells items false consequent) kc)
-        (off_right (nodes_of test) (nodes_of consequent) oc)))
-        (branch_so around id ty to otherwise (node_whole otherwise x Taken h.1.1.1.0
+        (off_right items body also told fuel z W keeps (nodes_of test) (nodes_of consequent) oc)))
+        (branch_so items body also told fuel z W keeps around id ty to otherwise (node_whole otherwise x Taken h.1.1.1.0
         (right (cells items true test ++ cells items false consequent) (cells items false otherwise) k)
-        (off_right (nodes_of test ++ nodes_of consequent) (nodes_of otherwise) o))))
+        (off_right items body also told fuel z W keeps (nodes_of test ++ nodes_of consequent) (nodes_of otherwise) o))))
     form_whole (tree.IfLet p scrutinee consequent absent) x id ty by h k o around own to =
         let k3 = left ((cells items true p ++ reached_cells items scrutinee) ++ cells items false consequent) [] k in
         let k2 = left (cells items true p ++ reached_cells items scrutinee) (cells items false consequent) k3 in
-        let o3 = off_left ((nodes_of p ++ nodes_of scrutinee) ++ nodes_of consequent) [] o in
-        let o2 = off_left (nodes_of p ++ nodes_of scrutinee) (nodes_of consequent) o3 in
+        let o3 = off_left items body also told fuel z W keeps ((nodes_of p ++ nodes_of scrutinee) ++ nodes_of consequent) [] o in
+        let o2 = off_left items body also told fuel z W keeps (nodes_of p ++ nodes_of scrutinee) (nodes_of consequent) o3 in
         rules.own_so items r z W keeps around _ (head id ty by) own _
         (rules.if_taken_so items r z W keeps around _ (head id ty by) (N p) (N scrutinee) _ _
         (node_reached scrutinee x (Used Use.Borrow) h.0 (right (cells items true p) (reached_cells items scrutinee) k2)
-        (off_right (nodes_of p) (nodes_of scrutinee) o2) around)
-        (bounds_off p (place_of (N scrutinee) around) (off_left (nodes_of p) (nodes_of scrutinee) o2))
-        (branch_so around id ty to consequent (node_whole consequent (with_names (patterns.entries_of p) x) Taken
+        (off_right items body also told fuel z W keeps (nodes_of p) (nodes_of scrutinee) o2) around)
+        (bounds_off items body also told fuel z W keeps p (place_of (N scrutinee) around) (off_left items body also told fuel z W keeps (nodes_of p) (nodes_of scrutinee) o2))
+        (branch_so items body also told fuel z W keeps around id ty to consequent (node_whole consequent (with_names (patterns.entries_of p) x) Taken
         h.1.1.0 (right (cells items true p ++ reached_cells items scrutinee) (cells items false consequent) k3)
-        (off_right (nodes_of p ++ nodes_of scrutinee) (nodes_of consequent) o3))) (unit_of around id ty by to))
+        (off_right items body also told fuel z W keeps (nodes_of p ++ nodes_of scrutinee) (nodes_of consequent) o3))) (unit_of items body also told fuel z W keeps around id ty by to))
     form_whole (tree.IfLet p scrutinee consequent (present otherwise)) x id ty by h k o around own to =
         let k3 = left ((cells items true p ++ reached_cells items scrutinee) ++ cells items false consequent)
         (cells items false otherwise) k in
         let k2 = left (cells items true p ++ reached_cells items scrutinee) (cells items false consequent) k3 in
-        let o3 = off_left ((nodes_of p ++ nodes_of scrutinee) ++ nodes_of consequent) (nodes_of otherwise) o in
-        let o2 = off_left (nodes_of p ++ nodes_of scrutinee) (nodes_of consequent) o3 in
+        let o3 = off_left items body also told fuel z W keeps ((nodes_of p ++ nodes_of scrutinee) ++ nodes_of consequent) (nodes_of otherwise) o in
+        let o2 = off_left items body also told fuel z W keeps (nodes_of p ++ nodes_of scrutinee) (nodes_of consequent) o3 in
         rules.own_so items r z W keeps around _ (head id ty by) own _
         (rules.if_taken_so items r z W keeps around _ (head id ty by) (N p) (N scrutinee) _ _
         (node_reached scrutinee x (Used Use.Borrow) h.0 (right (cells items true p) (reached_cells items scrutinee) k2)
-        (off_right (nodes_of p) (nodes_of scrutinee) o2) around)
-        (bounds_off p (place_of (N scrutinee) around) (off_left (nodes_of p) (nodes_of scrutinee) o2))
-        (branch_so around id ty to consequent (node_whole consequent (with_names (patterns.entries_of p) x) Taken
+        (off_right items body also told fuel z W keeps (nodes_of p) (nodes_of scrutinee) o2) around)
+        (bounds_off items body also told fuel z W keeps p (place_of (N scrutinee) around) (off_left items body also told fuel z W keeps (nodes_of p) (nodes_of scrutinee) o2))
+        (branch_so items body also told fuel z W keeps around id ty to consequent (node_whole consequent (with_names (patterns.entries_of p) x) Taken
         h.1.1.0 (right (cells items true p ++ reached_cells items scrutinee) (cells items false consequent) k3)
-        (off_right (nodes_of p ++ nodes_of scrutinee) (nodes_of consequent) o3)))
-        (branch_so around id ty to otherwise (node_whole otherwise x Taken h.1.1.1.0
+        (off_right items body also told fuel z W keeps (nodes_of p ++ nodes_of scrutinee) (nodes_of consequent) o3)))
+        (branch_so items body also told fuel z W keeps around id ty to otherwise (node_whole otherwise x Taken h.1.1.1.0
         (right ((cells items true p ++ reached_cells items scrutinee) ++ cells items false consequent)
         (cells items false otherwise) k)
-        (off_right ((nodes_of p ++ nodes_of scrutinee) ++ nodes_of consequent) (nodes_of otherwise) o))))
-    form_whole (tree.Match scrutinee arms) x id ty by h k o around own to = as_claimed around id ty to _
+        (off_right items body also told fuel z W keeps ((nodes_of p ++ nodes_of scrutinee) ++ nodes_of consequent) (nodes_of otherwise) o))))
+    form_whole (tree.Match scrutinee arms) x id ty by h k o around own to = as_claimed items body also told fuel z W keeps around id ty to _
         (rules.matching_so items r z W keeps around _ (head id ty by) (N scrutinee) (Ns arms) own
         (to_own_key (is_never items ty) id to)
         (node_reached scrutinee x (Used Use.Borrow) h.0 (left (reached_cells items scrutinee) (all_cells items arms) k)
-        (off_left (nodes_of scrutinee) (nodes_among arms) o) around)
+        (off_left items body also told fuel z W keeps (nodes_of scrutinee) (nodes_among arms) o) around)
         (arms_whole arms x (typing.matched_in false (K x) scrutinee) (ty_of scrutinee) h.1.0
         (right (reached_cells items scrutinee) (all_cells items arms) k)
-        (off_right (nodes_of scrutinee) (nodes_among arms) o) around (to_own_key (is_never items ty) id to)))
+        (off_right items body also told fuel z W keeps (nodes_of scrutinee) (nodes_among arms) o) around (to_own_key (is_never items ty) id to)))
     form_whole (tree.Loop inner) x id ty by h k o around own to =
         let a = at_nodes.around_a items body told fuel id ty true in
         let into = to_own_key (is_never items ty) id to in
         let y = in_a_loop a x in
-        as_claimed around id ty to _ (rules.own_so items r z W keeps around _ (head id ty by) own _
-        (rules.turns_so items r z W keeps fuel id into around _ (turn_of inner (own_whole inner y Taken h.0 k o)
+        as_claimed items body also told fuel z W keeps around id ty to _ (rules.own_so items r z W keeps around _ (head id ty by) own _
+        (rules.turns_so items r z W keeps fuel id into around _ (turn_of items body also told fuel z W keeps inner (own_whole inner y Taken h.0 k o)
         (in_loop id into around))))
     form_whole (tree.While test inner) x id ty by h k o around own to =
         let a = at_nodes.around_a items body told fuel id ty false in
         let into = to_own_key (is_never items ty) id to in
         let y = in_a_loop a x in
         let next = in_loop id into around in
-        as_claimed around id ty to _ (rules.own_so items r z W keeps around _ (head id ty by) own _
+        as_claimed items body also told fuel z W keeps around id ty to _ (rules.own_so items r z W keeps around _ (head id ty by) own _
         (rules.turns_so items r z W keeps fuel id into around _
         (rules.condition_so items r z W keeps next ⊥ next (N test) _ _
-        (less next _ _ (own_whole test y Taken h.0 (left (cells items true test) (cells items true inner) k)
-        (off_left (nodes_of test) (nodes_of inner) o) next true (Into (N test).head.id)))
-        (turn_of inner (own_whole inner y Taken h.1.1.0 (right (cells items true test) (cells items true inner) k)
-        (off_right (nodes_of test) (nodes_of inner) o)) next)
+        (less items body also told fuel z W keeps next _ _ (own_whole test y Taken h.0 (left (cells items true test) (cells items true inner) k)
+        (off_left items body also told fuel z W keeps (nodes_of test) (nodes_of inner) o) next true (Into (N test).head.id)))
+        (turn_of items body also told fuel z W keeps inner (own_whole inner y Taken h.1.1.0 (right (cells items true test) (cells items true inner) k)
+        (off_right items body also told fuel z W keeps (nodes_of test) (nodes_of inner) o)) next)
         (rules.ends_so items r z W keeps (head id ty by) into around))))
     form_whole (tree.WhileLet p scrutinee inner) x id ty by h k o around own to =
         let a = at_nodes.around_a items body told fuel id ty false in
@@ -572,16 +414,16 @@ module _ (items : ItemTable) (body : BodyTree) (also : Also) (told : Told items)
         let y = in_a_loop a x in
         let next = in_loop id into around in
         let k2 = left (cells items true p ++ reached_cells items scrutinee) (cells items true inner) k in
-        let o2 = off_left (nodes_of p ++ nodes_of scrutinee) (nodes_of inner) o in
-        as_claimed around id ty to _ (rules.own_so items r z W keeps around _ (head id ty by) own _
+        let o2 = off_left items body also told fuel z W keeps (nodes_of p ++ nodes_of scrutinee) (nodes_of inner) o in
+        as_claimed items body also told fuel z W keeps around id ty to _ (rules.own_so items r z W keeps around _ (head id ty by) own _
         (rules.turns_so items r z W keeps fuel id into around _
         (rules.if_taken_so items r z W keeps next ⊥ (head id ty by) (N p) (N scrutinee) _ _
         (node_reached scrutinee y (Used Use.Borrow) h.0 (right (cells items true p) (reached_cells items scrutinee) k2)
-        (off_right (nodes_of p) (nodes_of scrutinee) o2) next)
-        (bounds_off p (place_of (N scrutinee) next) (off_left (nodes_of p) (nodes_of scrutinee) o2))
-        (turn_of inner (own_whole inner (with_names (patterns.entries_of p) y) Taken h.1.1.0
+        (off_right items body also told fuel z W keeps (nodes_of p) (nodes_of scrutinee) o2) next)
+        (bounds_off items body also told fuel z W keeps p (place_of (N scrutinee) next) (off_left items body also told fuel z W keeps (nodes_of p) (nodes_of scrutinee) o2))
+        (turn_of items body also told fuel z W keeps inner (own_whole inner (with_names (patterns.entries_of p) y) Taken h.1.1.0
         (right (cells items true p ++ reached_cells items scrutinee) (cells items true inner) k)
-        (off_right (nodes_of p ++ nodes_of scrutinee) (nodes_of inner) o)) next)
+        (off_right items body also told fuel z W keeps (nodes_of p ++ nodes_of scrutinee) (nodes_of inner) o)) next)
         (rules.ends_so items r z W keeps (head id ty by) into around))))
     form_whole (tree.Break loop value) x id ty by h k o around own to =
         let t = some_holds (loop_with loop x.loops) (λ a. typing.carries (K x) a value) h.0 in
@@ -600,11 +442,11 @@ module _ (items : ItemTable) (body : BodyTree) (also : Also) (told : Told items)
     args_whole tys no_node x h k o around = tt
     args_whole [] (a_node first rest) x h k o around = absurd (false≢true h)
     args_whole (ty ∷ tys) (a_node first rest) x h k o around = (
-      operand_of first (off_left (nodes_of first) (nodes_among rest) o) (own_whole first x (Passed ty) h.0
-          (left (cells items true first) (all_cells items rest) k) (off_left (nodes_of first) (nodes_among rest) o))
+      operand_of items body also told fuel z W keeps first (off_left items body also told fuel z W keeps (nodes_of first) (nodes_among rest) o) (own_whole first x (Passed ty) h.0
+          (left (cells items true first) (all_cells items rest) k) (off_left items body also told fuel z W keeps (nodes_of first) (nodes_among rest) o))
           around,
       args_whole tys rest x h.1 (right (cells items true first) (all_cells items rest) k)
-          (off_right (nodes_of first) (nodes_among rest) o) around,
+          (off_right items body also told fuel z W keeps (nodes_of first) (nodes_among rest) o) around,
     )
 
     parts_whole : (tys : List TyId) (ns : Nodes) (x : Standpoint) → Holds (typing.made_parts (K x) tys ns) →
@@ -612,22 +454,22 @@ module _ (items : ItemTable) (body : BodyTree) (also : Also) (told : Told items)
     parts_whole tys no_node x h k o around = tt
     parts_whole [] (a_node first rest) x h k o around = absurd (false≢true h)
     parts_whole (ty ∷ tys) (a_node first rest) x h k o around = (
-      operand_of first (off_left (nodes_of first) (nodes_among rest) o) (own_whole first x (Wanted ty) h.0
-          (left (cells items true first) (all_cells items rest) k) (off_left (nodes_of first) (nodes_among rest) o))
+      operand_of items body also told fuel z W keeps first (off_left items body also told fuel z W keeps (nodes_of first) (nodes_among rest) o) (own_whole first x (Wanted ty) h.0
+          (left (cells items true first) (all_cells items rest) k) (off_left items body also told fuel z W keeps (nodes_of first) (nodes_among rest) o))
           around,
       parts_whole tys rest x h.1 (right (cells items true first) (all_cells items rest) k)
-          (off_right (nodes_of first) (nodes_among rest) o) around,
+          (off_right items body also told fuel z W keeps (nodes_of first) (nodes_among rest) o) around,
     )
 
     elements_whole : (ty : TyId) (ns : Nodes) (x : Standpoint) → Holds (typing.elements_of (K x) ty ns) →
         H (all_cells items ns) → OffN (nodes_among ns) → AllE (Ns ns)
     elements_whole ty no_node x h k o around = tt
     elements_whole ty (a_node first rest) x h k o around = (
-      operand_of first (off_left (nodes_of first) (nodes_among rest) o) (own_whole first x (Wanted ty) h.0
-          (left (cells items true first) (all_cells items rest) k) (off_left (nodes_of first) (nodes_among rest) o))
+      operand_of items body also told fuel z W keeps first (off_left items body also told fuel z W keeps (nodes_of first) (nodes_among rest) o) (own_whole first x (Wanted ty) h.0
+          (left (cells items true first) (all_cells items rest) k) (off_left items body also told fuel z W keeps (nodes_of first) (nodes_among rest) o))
           around,
       elements_whole ty rest x h.1 (right (cells items true first) (all_cells items rest) k)
-          (off_right (nodes_of first) (nodes_among rest) o) around,
+          (off_right items body also told fuel z W keeps (nodes_of first) (nodes_among rest) o) around,
     )
 
     captures_whole : (tys : List TyId) (ns : Nodes) (x : Standpoint) → Holds (typing.captured (K x) tys ns) →
@@ -635,11 +477,11 @@ module _ (items : ItemTable) (body : BodyTree) (also : Also) (told : Told items)
     captures_whole tys no_node x h k o around = tt
     captures_whole [] (a_node first rest) x h k o around = absurd (false≢true h)
     captures_whole (ty ∷ tys) (a_node first rest) x h k o around = (
-      operand_of first (off_left (nodes_of first) (nodes_among rest) o) (own_whole first x Taken h.0
-          (left (cells items true first) (all_cells items rest) k) (off_left (nodes_of first) (nodes_among rest) o))
+      operand_of items body also told fuel z W keeps first (off_left items body also told fuel z W keeps (nodes_of first) (nodes_among rest) o) (own_whole first x Taken h.0
+          (left (cells items true first) (all_cells items rest) k) (off_left items body also told fuel z W keeps (nodes_of first) (nodes_among rest) o))
           around,
       captures_whole tys rest x h.1.1 (right (cells items true first) (all_cells items rest) k)
-          (off_right (nodes_of first) (nodes_among rest) o) around,
+          (off_right items body also told fuel z W keeps (nodes_of first) (nodes_among rest) o) around,
     )
 
     fields_whole : (tys : List TyId) (fields : Fields) (x : Standpoint) → Holds (typing.made_fields (K x) tys fields) →
@@ -647,11 +489,11 @@ module _ (items : ItemTable) (body : BodyTree) (also : Also) (told : Told items)
     fields_whole tys no_field x h k o around = tt
     fields_whole tys (a_field number value rest) x h k o around =
         let t = some_holds (slice_get tys number) (λ ty. typing.typed (K x) (Wanted ty) value) h.0 in (
-          operand_of value (off_left (nodes_of value) (nodes_of_fields rest) o) (own_whole value x (Wanted t.0) t.1.1
+          operand_of items body also told fuel z W keeps value (off_left items body also told fuel z W keeps (nodes_of value) (nodes_of_fields rest) o) (own_whole value x (Wanted t.0) t.1.1
               (left (cells items true value) (cells_of_fields items rest) k)
-              (off_left (nodes_of value) (nodes_of_fields rest) o)) around,
+              (off_left items body also told fuel z W keeps (nodes_of value) (nodes_of_fields rest) o)) around,
           fields_whole tys rest x h.1 (right (cells items true value) (cells_of_fields items rest) k)
-              (off_right (nodes_of value) (nodes_of_fields rest) o) around,
+              (off_right items body also told fuel z W keeps (nodes_of value) (nodes_of_fields rest) o) around,
         )
 
     carried_whole : (value : MaybeNode) (x : Standpoint) (a : LoopAround) → Holds (typing.carries (K x) a value) →
@@ -672,8 +514,8 @@ module _ (items : ItemTable) (body : BodyTree) (also : Also) (told : Told items)
         Holds (typing.tail_of (K x) tail) → H (cells_if_any items false tail) → OffN (nodes_if_any tail) →
         (around : LoopsAndGuards) (to : Destination) → Makes around (Claim ty to)
         (forms.tail_of items r (head id ty by) (Ni tail) around (to_own_key (is_never items ty) id to))
-    tail_whole absent x id ty by j k o around to = unit_if_so around id ty by to (is_never items ty) refl
-    tail_whole (present tail) x id ty by j k o around to = branch_so around id ty to tail (node_whole tail x Taken j k
+    tail_whole absent x id ty by j k o around to = unit_if_so items body also told fuel z W keeps around id ty by to (is_never items ty) refl
+    tail_whole (present tail) x id ty by j k o around to = branch_so items body also told fuel z W keeps around id ty to tail (node_whole tail x Taken j k
         o)
 
     statements_whole : (ns : Nodes) (x : Standpoint) (rest : Context → Rattle.well_typed.specs.Claim.Claim) →
@@ -684,10 +526,10 @@ module _ (items : ItemTable) (body : BodyTree) (also : Also) (told : Told items)
         let first = node id at ty by form in (
           statement_whole form x id ty by h.1.0 (cells_of.inside items body true first
               (left (cells items true first) (all_cells items more) k))
-              (inner_off first (off_left (nodes_of first) (nodes_among more) o)) around,
+              (inner_off items body also told fuel z W keeps first (off_left items body also told fuel z W keeps (nodes_of first) (nodes_among more) o)) around,
           statements_whole more (with_names (typing.entries_in form) x) rest h.1.1
               (right (cells items true first) (all_cells items more) k)
-              (off_right (nodes_of first) (nodes_among more) o) around,
+              (off_right items body also told fuel z W keeps (nodes_of first) (nodes_among more) o) around,
         )
 
     statement_whole : (form : Form) (x : Standpoint) (id : ℕ) (ty : TyId) (by : Option Use) →
@@ -695,21 +537,21 @@ module _ (items : ItemTable) (body : BodyTree) (also : Also) (told : Told items)
         LoopsAndGuards) → Makes around ⊥ ((F form id ty by).evaluate around false (Into (F form id ty by).head.id))
     statement_whole (tree.Let p absent) x id ty by h k o around =
         rules.declared_so items r z W keeps around ((N p).shape.bindings (whole_local 0))
-        (bounds_off p (whole_local 0) (off_left (nodes_of p) [] o))
+        (bounds_off items body also told fuel z W keeps p (whole_local 0) (off_left items body also told fuel z W keeps (nodes_of p) [] o))
     statement_whole (tree.Let (node pid pat pty pby (tree.Binding name)) (present value)) x id ty by h k o around =
         let p = node pid pat pty pby (tree.Binding name) in
         rules.let_name_so items r z W keeps around (head id ty by) (head pid pty pby) (N value) (o pid (inl refl))
-        (less around _ _ (node_whole value x (Wanted pty) h.0 (right (cells items true p) (cells items false value) k)
-        (off_right (nodes_of p) (nodes_of value) o) around false (Into pid)))
+        (less items body also told fuel z W keeps around _ _ (node_whole value x (Wanted pty) h.0 (right (cells items true p) (cells items false value) k)
+        (off_right items body also told fuel z W keeps (nodes_of p) (nodes_of value) o) around false (Into pid)))
     statement_whole (tree.Let (node pid pat pty pby pform) (present value)) x id ty by h k o around =
         let p = node pid pat pty pby pform in
         rules.let_parts_so items r z W keeps around (head id ty by) (N p) (N value)
         (node_reached value x Base h.0 (right (cells items true p) (reached_cells items value) k)
-        (off_right (nodes_of p) (nodes_of value) o) around)
-        (bounds_off p (place_of (N value) around) (off_left (nodes_of p) (nodes_of value) o))
+        (off_right items body also told fuel z W keeps (nodes_of p) (nodes_of value) o) around)
+        (bounds_off items body also told fuel z W keeps p (place_of (N value) around) (off_left items body also told fuel z W keeps (nodes_of p) (nodes_of value) o))
     statement_whole (tree.Evaluate expression) x id ty by h k o around =
         rules.evaluating_so items r z W keeps around (head id ty by) (N expression)
-        (operand_of expression o (own_whole expression x Taken h k o) around)
+        (operand_of items body also told fuel z W keeps expression o (own_whole expression x Taken h k o) around)
     statement_whole form x id ty by h k o around = absurd (false≢true h)
 
     -- ---- arms
@@ -723,9 +565,9 @@ module _ (items : ItemTable) (body : BodyTree) (also : Also) (told : Told items)
         let first = node id at ty by form in (
           λ place otherwise other. arm_whole form x m want id at ty by h.0 (cells_of.inside items body true first
               (left (cells items true first) (all_cells items rest) k))
-              (inner_off first (off_left (nodes_of first) (nodes_among rest) o)) around to place otherwise other,
+              (inner_off items body also told fuel z W keeps first (off_left items body also told fuel z W keeps (nodes_of first) (nodes_among rest) o)) around to place otherwise other,
           arms_whole rest x m want h.1 (right (cells items true first) (all_cells items rest) k)
-              (off_right (nodes_of first) (nodes_among rest) o) around to,
+              (off_right items body also told fuel z W keeps (nodes_of first) (nodes_among rest) o) around to,
         )
 
     arm_whole : (form : Form) (x : Standpoint) (m : patterns.Matched) (want : TyId) (id : ℕ) (at : Pos) (ty : TyId)
@@ -735,15 +577,15 @@ module _ (items : ItemTable) (body : BodyTree) (also : Also) (told : Told items)
         Makes around (key_of to ≡ z) ((F form id ty by).arm place otherwise around to)
     arm_whole (tree.Arm p guard inner) x m want id at ty by h k o around to place otherwise other =
         let k2 = left (cells items true p ++ cells_if_any items true guard) (cells items false inner) k in
-        let o2 = off_left (nodes_of p ++ nodes_if_any guard) (nodes_of inner) o in
+        let o2 = off_left items body also told fuel z W keeps (nodes_of p ++ nodes_if_any guard) (nodes_of inner) o in
         rules.arm_so items r z W keeps around (key_of to ≡ z) (head id ty by) (N p) (Ni guard) (N inner) place
         otherwise to (guard_whole guard (with_names (in_guard (patterns.entries_of p)) x) h.1.1.1.0
         (right (cells items true p) (cells_if_any items true guard) k2)
-        (off_right (nodes_of p) (nodes_if_any guard) o2) ((N p).shape.bindings place) around)
-        (bounds_off p place (off_left (nodes_of p) (nodes_if_any guard) o2))
+        (off_right items body also told fuel z W keeps (nodes_of p) (nodes_if_any guard) o2) ((N p).shape.bindings place) around)
+        (bounds_off items body also told fuel z W keeps p place (off_left items body also told fuel z W keeps (nodes_of p) (nodes_if_any guard) o2))
         (node_whole inner (with_names (patterns.entries_of p) x) Taken h.1.1.1.1.0
         (right (cells items true p ++ cells_if_any items true guard) (cells items false inner) k)
-        (off_right (nodes_of p ++ nodes_if_any guard) (nodes_of inner) o) around true to) other
+        (off_right items body also told fuel z W keeps (nodes_of p ++ nodes_if_any guard) (nodes_of inner) o) around true to) other
     arm_whole form x m want id at ty by h k o around to place otherwise other = absurd (false≢true h)
 
     guard_whole : (guard : MaybeNode) (x : Standpoint) → Holds (typing.guarded (K x) guard) →
@@ -753,6 +595,6 @@ module _ (items : ItemTable) (body : BodyTree) (also : Also) (told : Told items)
     guard_whole absent x h k o bounds around g e = absurd (none-some g e)
     guard_whole (present guard) x h k o bounds around g e =
         subst (λ (y : Meaning V). Makes around ⊥ (y.evaluate (forms.in_guard bounds around) true (Into y.head.id)))
-        (same_meaning (N guard) g e)
-        (λ S v f. guard_around bounds around _ (less (forms.in_guard bounds around) _ _ (own_whole guard x Taken h.0 k o
+        (same_meaning items body also told fuel z W keeps (N guard) g e)
+        (λ S v f. guard_around items body also told fuel z W keeps bounds around _ (less items body also told fuel z W keeps (forms.in_guard bounds around) _ _ (own_whole guard x Taken h.0 k o
         (forms.in_guard bounds around) true (Into (N guard).head.id)) S v f))

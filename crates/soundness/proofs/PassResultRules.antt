@@ -6,12 +6,12 @@ use Rattle.std.proofs.lemmas.Bool.Decides.{Decides-eqb}
 use Rattle.mir_ty.specs.Facts.{needs_drop}
 use Rattle.mir_ty.specs.ItemTable.{ItemTable}
 use Rattle.store_model.specs.Effects as effects
-use Rattle.store_model.specs.Effects.{EffectSite, Operand, Action, Mode, Normal, Unwinding, Halt, Out, Go, Unwind, Halts, Choice, Yes, No, Neither, Effects, stored_by}
+use Rattle.store_model.specs.Effects.{EffectSite, Action, Mode, Normal, Unwinding, Halt, Out, Go, Unwind, Halts, Choice, Yes, No, Neither, Effects, stored_by}
 use Rattle.store_model.specs.Places.Place.{Place}
 use Rattle.src_meaning.specs.Forms as forms
 use Rattle.src_meaning.specs.Forms.{Destination, Into, Coerced, coerced, LoopsAndGuards, Meaning, entry_of, bound_entry, site_in, moved, keys_of, changed_if, in_loop, loop_destination, place_of, site_of}
 use Rattle.src_meaning.specs.Scopes as source
-use Rattle.src_meaning.specs.Scopes.{Entry, Scope, Scopes, with_scope, without_key, without_keys, innermost, around_innermost, nearest_temporary, nearest_from, with_entry, with_pending, without_pending, becomes_entry, without_operands, needing_drop, Exit, Value, Breaks, Continues, Returns, Panics, Run, At, Over, Does, ◌>>◌, on_value, in_scopes, back_in, leave, leaving, drop_normally, drop_unwinding, entry_site, choosing, chosen, in_scope, then_or_leave}
+use Rattle.src_meaning.specs.Scopes.{Entry, Scope, Scopes, with_scope, innermost, around_innermost, nearest_temporary, nearest_from, with_entry, with_pending, without_pending, becomes_entry, without_operands, needing_drop, Exit, Value, Breaks, Continues, Returns, Panics, Run, At, Over, Does, ◌>>◌, on_value, in_scopes, back_in, leave, leaving, drop_normally, drop_unwinding, entry_site, choosing, chosen, in_scope, then_or_leave}
 use Rattle.src_meaning.specs.Shape.{NodeHead, Shape, BoundName}
 use Rattle.soundness_values.proofs.Leaving.{ShownOut, AllOf}
 use Rattle.soundness.proofs.PassPlacesRules.{NoValue}
@@ -389,7 +389,7 @@ module _ {V : Type 0} (items : ItemTable) (q : Effects V) (z : ℕ) (W : V → T
       (forms.bind items q innermost (pattern.shape.bindings (place_of scrutinee around))) does
       (bind_so around innermost off_innermost (pattern.shape.bindings (place_of scrutinee around)) b) d U u x))
       (λ U u x. then_so around ⊥ A (leave items q (At Value U u)) otherwise
-      (leave_so around ⊥ (At Value U u) (x, λ y. absurd y)) (λ T2 y k a. o T2 y k)))
+      (leave_so around ⊥ (At Value U u) (x, λ y. absurd y)) (λ behind y k a. o behind y k)))
     where
       bound : Does V
       bound T w = on_value (forms.bind items q innermost (pattern.shape.bindings (place_of scrutinee around)) T w) does

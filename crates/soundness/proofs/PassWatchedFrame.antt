@@ -34,8 +34,10 @@ use Rattle.soundness_frame.proofs.PassFrameActs.{Allowed, AnsweredSo, KeptOut, K
 use Rattle.soundness_frame.proofs.PassFrameCalls as calls
 use Rattle.soundness_frame.proofs.PassFrameCalls.{Ends, called_by, all_end}
 use Rattle.soundness_frame.proofs.PassFrameCells.{Cells, CellsKept, free_keeping}
+use Rattle.soundness_frame.proofs.PassFrameHeads as pass_frame_heads
+use Rattle.soundness_frame.proofs.PassFrameOperands as pass_frame_operands
 use Rattle.soundness_frame.proofs.PassFrameForms as frames
-use Rattle.soundness_frame.proofs.PassFrameForms.{Calls, moved_nodes}
+use Rattle.soundness_frame.proofs.PassFrameHeads.{moved_nodes}
 use Rattle.soundness_frame.proofs.PassFrameRuns.{allowed_at, test_allowed}
 use Rattle.soundness_values.proofs.PassHeads.{number_is}
 use Rattle.soundness_cells.proofs.PassMarks.{marked, chosen_marked}
@@ -233,10 +235,10 @@ module _ (p : ProgramTree) (sound : IsSound p) (n fuel : ℕ) (b : BodyTree) (at
   args = args_of p.items b also fuel (block_rises p sound n b at)
 
   by_number : (at_node : ℕ) (ns : Nodes) → all_moved at_node (Ms ns) ≡ moved_nodes at_node ns
-  by_number at_node ns = frames.all_by_number p.items r over (Does_ p.items b also) (Drops p.items b also) May_at May_at
+  by_number at_node ns = pass_frame_heads.all_by_number p.items r over (Does_ p.items b also) (Drops p.items b also) May_at May_at
       May_at Kept keeps (Above p sound n fuel b at least) fuel at_node ns
 
-  at_calls : frames.AtCalls p.items r over (Does_ p.items b also) (Drops p.items b also) May_at May_at May_at Kept keeps
+  at_calls : pass_frame_operands.AtCalls p.items r over (Does_ p.items b also) (Drops p.items b also) May_at May_at May_at Kept keeps
       (Above p sound n fuel b at least) fuel
   at_calls = record {
     called_kept = λ form ns action c id ty by s around loops a w says ev own_cell own to d.
@@ -256,9 +258,9 @@ module _ (p : ProgramTree) (sound : IsSound p) (n fuel : ℕ) (b : BodyTree) (at
         (leaves.at_calls p sound n fuel b at least left May facts0 cells0) ns around (within.passing id loops) a w)
         k.fit k.leave)) S v i tt)
         (λ key x v i j. acts_in (action (site_in id key) (all_moved id (Ms ns))) v
-        (frames.called_allowed p.items r over (Does_ p.items b also) (Drops p.items b also) May_at May_at May_at Kept
+        (pass_frame_operands.called_allowed p.items r over (Does_ p.items b also) (Drops p.items b also) May_at May_at May_at Kept
         keeps (Above p sound n fuel b at least) fuel form ns action c id key (all_moved id (Ms ns)) x
-        (frames.all_taken p.items r over (Does_ p.items b also) (Drops p.items b also) May_at May_at May_at Kept keeps
+        (pass_frame_operands.all_taken p.items r over (Does_ p.items b also) (Drops p.items b also) May_at May_at May_at Kept keeps
         (Above p sound n fuel b at least) fuel id around (Ms ns) ev))
         (subst (λ l. MayCall May p.items (local_ty p.items b) target v.facts (action_at local (action (site_in id key)
         l))) (sym (by_number id ns))
@@ -280,7 +282,7 @@ module _ (p : ProgramTree) (sound : IsSound p) (n fuel : ℕ) (b : BodyTree) (at
       within.Within p.items May_at (Above p sound n fuel b at least) around.aliases loops m → (S : Scopes) (v : V) →
       Kept v → Shown over (λ exit T w. Kept w) (forms.alone p.items r around (M m) (Into (M m).head.id) S v)
   shown_alone m around loops a w S v k = shown_at (forms.alone p.items r around (M m) (Into (M m).head.id) S v)
-      ((frames.body_from p.items r over (Does_ p.items b also) (Drops p.items b also) May_at May_at May_at Kept keeps
+      ((pass_frame_operands.body_from p.items r over (Does_ p.items b also) (Drops p.items b also) May_at May_at May_at Kept keeps
       (Above p sound n fuel b at least) fuel m around loops w
       (λ own to d. frames.evaluated p.items r over (Does_ p.items b also) (Drops p.items b also) May_at May_at May_at
       Kept keeps (Above p sound n fuel b at least) fuel (leaves.saying p sound n fuel b at least left May facts0

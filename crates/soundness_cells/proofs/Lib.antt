@@ -18,6 +18,7 @@ pub mod PassCellParams
 pub mod PassCellParts
 pub mod PassCellPatterns
 pub mod PassCellPlaces
+pub mod PassCellPlainTypes
 pub mod PassCellPlain
 pub mod PassCellScoped
 pub mod PassCellSites
@@ -26,6 +27,7 @@ pub mod PassCellStatements
 pub mod PassCellTaken
 pub mod PassCellTests
 pub mod PassCellTypes
+pub mod PassCellWalk
 pub mod PassCells
 pub mod PassClear
 pub mod PassEffects
@@ -43,6 +45,9 @@ pub mod PassFreeArms
 pub mod PassFreeBodies
 pub mod PassFreeChoices
 pub mod PassFreeEntire
+pub mod PassFreeOperators
+pub mod PassFreeBranching
+pub mod PassFreeWhile
 pub mod PassFreeForms
 pub mod PassFreeKinds
 pub mod PassFreeLoops

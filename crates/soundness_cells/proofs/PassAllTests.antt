@@ -1,14 +1,14 @@
 -- One run that says of each effect which of all tests fails first: 1 where what is done with cells is not of their types,
 -- 3 where a place waits for its value, 4 where an action stores into a local that holds something, 5 where another test
 -- fails. The first three are shown never to fail; so a checked run complains only by what is left.
-use Rattle.std.proofs.Common.{◌≡◌, ◌⊎◌, inl, inr, ℕ, ◌+◌, ◌==◌, ◌&&◌, ◌||◌, not, Bool, true, false, List, [], Option, Some, None, refl, ap, sym, ◌∙◌, subst, arith}
+use Rattle.std.proofs.Common.{◌≡◌, ◌⊎◌, inl, inr, ℕ, ◌+◌, ◌==◌, ◌&&◌, ◌||◌, not, Bool, true, false, List, Option, Some, None, refl, ap, sym, ◌∙◌, subst}
 use Rattle.std.proofs.lemmas.Bool.{false≢true}
 use Rattle.std.proofs.lemmas.Bool.Decides.{Decides-eqb}
 use Rattle.std.specs.Prelude.{slice_get}
 use Rattle.mir_ty.specs.declared.def.Sig.{Sig}
 use Rattle.mir_ty.specs.ItemTable.{ItemTable}
 use Rattle.store_model.specs.Abstract.Effects.{abstract_effects}
-use Rattle.store_model.specs.Effects.{Halt, Aborted, OutOfTicks, Stuck, StuckAt, BadUse, BadStore, NoChoice, Infeasible, Unreachable, Out, Go, Unwind, Halts, Effects}
+use Rattle.store_model.specs.Effects.{Halt, Stuck, StuckAt, Out, Go, Unwind, Halts, Effects}
 use Rattle.src_meaning.specs.Locals.Effects.{at_locals}
 use Rattle.src_meaning.specs.Locals.OfBody.{local_of, local_ty}
 use Rattle.src_meaning.specs.Programs.{activation}
@@ -22,15 +22,15 @@ use Rattle.soundness_values.proofs.Checks.{is_none}
 use Rattle.soundness_values.proofs.Facts.{Facts}
 use Rattle.soundness_values.proofs.Leaving.{ShownOut}
 use Rattle.soundness_values.proofs.Owing.{checked_body, starting_of}
-use Rattle.soundness_cells.proofs.PassCellEffects.{marked_run, may_end}
+use Rattle.soundness_cells.proofs.PassCellEffects.{may_end}
 use Rattle.soundness_cells.proofs.PassCellTests.{mark_of, mark_as, cells_act, cells_test, cells_drop, cells_give, cell_marks}
-use Rattle.soundness_cells.proofs.PassEmpty.{empty_marks, empty_run, finds_nothing}
+use Rattle.soundness_cells.proofs.PassEmpty.{empty_marks, finds_nothing}
 use Rattle.soundness_cells.proofs.PassEmptyEnds.{empty_ends}
 use Rattle.soundness_cells.proofs.PassFirst.{body_at, first_holds}
 use Rattle.soundness_cells.proofs.PassFree.{Always}
 use Rattle.soundness_cells.proofs.PassMarks.{Marks, marked_effects, StandFor, Unmarked, unmarked_run}
 use Rattle.soundness_cells.proofs.PassMarksJoin.{Carries, CarriesMark, carried, ListedMark, AllListed, halts_checked}
-use Rattle.soundness_cells.proofs.PassRefilled.{none_waits, refill_marks, refill_run, refill_ends, checked_ends, not_mark, says_lost}
+use Rattle.soundness_cells.proofs.PassRefilled.{none_waits, refill_marks, refill_ends, checked_ends, not_mark, says_lost}
 use Rattle.soundness_values.proofs.Relating.{feeds}
 
 -- the mark of an effect: whether all tests hold, whether those do that ask nothing of protected parameters, and the
@@ -267,15 +267,8 @@ module _ (p : ProgramTree) (typed : WellTyped p) (also : ℕ → Also) where
         (all_stand p.items b (also n)) free p.items (local_of p.items b) fuel b start (by all_run refl)
       where
         of : (halt : Halt) (w : V) → all_run ≡ Halts halt w → Unmarked {F = Facts} (Halts halt w)
-        of Aborted w h m = m
-        of OutOfTicks w h m = m
-        of Stuck w h m = m
         of (StuckAt k block) w h m = unmarked k block w h
-        of (BadUse site) w h m = m
-        of (BadStore site) w h m = m
-        of NoChoice w h m = m
-        of Infeasible w h m = m
-        of Unreachable w h m = m
+        of other w h m = m
 
         by : (o : Out V) → all_run ≡ o → Unmarked o
         by (Go w) h = tt

@@ -10,7 +10,7 @@ use Rattle.mir_ty.specs.ItemTable.{ItemTable}
 use Rattle.store_model.specs.Abstract.Effects as free
 use Rattle.store_model.specs.Abstract.Effects.{AbstractState, abstract_effects, when, operand_used, operands_used, store, panics_by_choice, returns_by_choice, computed_by_choice, choice_after, chosen_next, acted_on, watched_at, may_use, may_store, may_test, unless_never, never_at, presence_of}
 use Rattle.store_model.specs.Effects as effects
-use Rattle.store_model.specs.Effects.{EffectSite, Operand, Action, Test, Mode, Normal, Unwinding, Halt, Aborted, OutOfTicks, Stuck, StuckAt, BadUse, BadStore, NoChoice, Infeasible, Unreachable, Out, Go, Unwind, Halts, Choice, Yes, No, Neither, Effects, on_go, halting_if, stores_where, stored_by}
+use Rattle.store_model.specs.Effects.{EffectSite, Operand, Action, Test, Mode, Normal, Unwinding, Halt, Stuck, StuckAt, BadUse, BadStore, Infeasible, Unreachable, Out, Go, Unwind, Halts, Choice, Yes, No, Neither, Effects, on_go, halting_if, stores_where, stored_by}
 use Rattle.typed_tree.specs.Tree.{BodyTree}
 use Rattle.src_meaning.specs.Locals.Effects.{at_locals, site_at, operand_at, action_at, test_at}
 use Rattle.src_meaning.specs.Locals.OfBody.{local_of, local_ty}
@@ -38,15 +38,9 @@ abbrev pub may_end : {V : Type 0} → Halt → V → Type 0
 may_end halt v = NotFirst halt
 
 pub not_first : (halt : Halt) → NotStuck halt → NotFirst halt
-not_first Aborted h = tt
-not_first OutOfTicks h = tt
 not_first Stuck h = absurd h
 not_first (StuckAt body block) h = absurd h
-not_first (BadUse site) h = tt
-not_first (BadStore site) h = tt
-not_first NoChoice h = tt
-not_first Infeasible h = tt
-not_first Unreachable h = tt
+not_first other h = tt
 
 module _ (items : ItemTable) (local_ty : ℕ → Option TyId) where
   -- a free effect, which panics only where that is so
@@ -200,22 +194,7 @@ stored_at : (local_of : ℕ → ℕ) (test : EffectSite → Bool) (action : Acti
     stores_where test (action_at local_of action) ≡
     option_map_or (λ site. test (site_at local_of site)) (stored_by action) false
 stored_at local_of test (effects.Put to from) = refl
-stored_at local_of test (effects.Compare to operator left right) = refl
-stored_at local_of test (effects.Not to operand) = refl
-stored_at local_of test (effects.Build to kind parts) = refl
-stored_at local_of test (effects.NewBox to content) = refl
-stored_at local_of test (effects.Unsize to trait_no operand) = refl
-stored_at local_of test (effects.Borrow to unique base) = refl
-stored_at local_of test (effects.Touch base) = refl
-stored_at local_of test (effects.Print operand) = refl
-stored_at local_of test (effects.Forget operand) = refl
-stored_at local_of test (effects.Free box) = refl
-stored_at local_of test (effects.Compute to operator left right) = refl
-stored_at local_of test (effects.Negate to operand) = refl
-stored_at local_of test (effects.Bounds index length) = refl
-stored_at local_of test (effects.Call to body args) = refl
-stored_at local_of test (effects.CallVirtual to trait_no method args) = refl
-stored_at local_of test (effects.Ask to) = refl
+stored_at local_of test other = refl
 
 module _ (items : ItemTable) (body : BodyTree) where
   abbrev pub local : ℕ → ℕ

@@ -144,16 +144,7 @@ module _ (items : ItemTable) where
   named_content None to e = absurd (none-some to e)
   named_content (Some (Ty.Shared t)) to e = e
   named_content (Some (Ty.Unique t)) to e = e
-  named_content (Some (Ty.Int kind)) to e = absurd (none-some to e)
-  named_content (Some Ty.Bool) to e = absurd (none-some to e)
-  named_content (Some Ty.Unit) to e = absurd (none-some to e)
-  named_content (Some Ty.Never) to e = absurd (none-some to e)
-  named_content (Some (Ty.Tuple parts)) to e = absurd (none-some to e)
-  named_content (Some (Ty.Array t n)) to e = absurd (none-some to e)
-  named_content (Some (Ty.Adt n)) to e = absurd (none-some to e)
-  named_content (Some (Ty.Boxed t)) to e = absurd (none-some to e)
-  named_content (Some (Ty.Dyn n)) to e = absurd (none-some to e)
-  named_content (Some (Ty.Closure n)) to e = absurd (none-some to e)
+  named_content (Some other) to e = absurd (none-some to e)
 
 module _ (items : ItemTable) (body : BodyTree) where
   abbrev local : ℕ → ℕ

@@ -36,7 +36,8 @@ use Rattle.soundness_cells.proofs.PassCellActs as acts
 use Rattle.soundness_cells.proofs.PassCellActs.{Cell}
 use Rattle.soundness_cells.proofs.PassCellEffects.{marked_run, may_end, Acts, Tests, Drops, Made, does_well}
 use Rattle.soundness_cells.proofs.PassCellNodes as nodes
-use Rattle.soundness_cells.proofs.PassCellPlain.{Known, plain_alone, plain_listed, taken_plain}
+use Rattle.soundness_cells.proofs.PassCellPlainTypes.{Known, plain_alone, plain_listed}
+use Rattle.soundness_cells.proofs.PassCellPlain.{taken_plain}
 use Rattle.soundness_cells.proofs.PassCellNodes.{May, Post, Fine, Well, Reach, Reached, Own, AroundWell, Dest, IsMade}
 use Rattle.soundness_cells.proofs.PassCellPatterns as cells_of
 use Rattle.soundness_cells.proofs.PassCellPatterns.{Told, Has, made_of_never}

@@ -1,6 +1,6 @@
 -- The place of each node of a well typed body leads on by the types, and is of the type of the node: by what is in scope,
 -- by the names of guards, and by the cells of temporaries.
-use Rattle.std.proofs.Common.{◌≡◌, ℕ, ◌==◌, ◌&&◌, Bool, true, false, Option, Some, None, is_none, refl, ap, sym, ◌∙◌, subst}
+use Rattle.std.proofs.Common.{◌≡◌, ℕ, ◌==◌, ◌&&◌, Bool, true, false, Option, Some, None, is_none, refl, sym, ◌∙◌, subst}
 use Rattle.std.specs.Prelude.{option_and_then}
 use Rattle.std.specs.Option.{option_map_or}
 use Rattle.std.proofs.lemmas.Bool.{false≢true}
@@ -11,12 +11,11 @@ use Rattle.mir_ty.specs.declared.ty.TyId.{TyId}
 use Rattle.mir_ty.specs.ItemTable.{ItemTable, type_at}
 use Rattle.mir_ty.specs.Parts.{field_ty}
 use Rattle.store_model.specs.Concrete.Location.{named_by}
-use Rattle.store_model.specs.Places.Place.{ToPart, ToContent, ToElement, Place, whole_local, step_ty, is_reference}
+use Rattle.store_model.specs.Places.Place.{ToPart, ToContent, ToElement, whole_local, step_ty, is_reference}
 use Rattle.typed_tree.specs.declared.node.Use.{Use}
 use Rattle.typed_tree.specs.Nodes.{number_of}
 use Rattle.typed_tree.specs.Tree as tree
 use Rattle.typed_tree.specs.Tree.{Node, node, Form, BodyTree}
-use Rattle.src_meaning.specs.Evaluation.{meaning}
 use Rattle.src_meaning.specs.Forms.{is_never}
 use Rattle.src_meaning.specs.Locals.OfBody.{cells, reached_cells, cells_in, local_of}
 use Rattle.src_meaning.specs.Shape.{Aliases, NodeHead, head, shape, shape_of, extended, place_of_key}
@@ -30,7 +29,7 @@ use Rattle.soundness_cells.proofs.PassCellEffects.{marked_run}
 use Rattle.soundness_cells.proofs.PassCellNames.{PlaceOk, cell_ok, further_ok, named_ok, goes, Names}
 use Rattle.soundness_cells.proofs.PassCellNodes as nodes
 use Rattle.soundness_cells.proofs.PassCellPatterns as cells_of
-use Rattle.soundness_cells.proofs.PassCellPlain as plains
+use Rattle.soundness_cells.proofs.PassCellPlainTypes as pass_cell_plain_types
 use Rattle.soundness_cells.proofs.PassCellPlain.{form_plain}
 use Rattle.soundness_cells.proofs.PassListed.{Listed}
 use Rattle.soundness_cells.proofs.PassCellPatterns.{Told, Has}
@@ -132,7 +131,7 @@ module _ (items : ItemTable) (body : BodyTree) (told : Told items) (fuel : ℕ) 
   -- and is no reference
   pub base_plain : (n : Node) (x : Standpoint) → Holds (typing.typed (K x) Base n) → Scoped items body x →
       is_place (form_of n) ≡ false → is_reference (type_at items (ty_of n)) ≡ false
-  base_plain (node id at ty by form) x h s p = plain ty (plains.no_reference items told ty (form_plain items told form
+  base_plain (node id at ty by form) x h s p = plain ty (pass_cell_plain_types.no_reference items told ty (form_plain items told form
       (x, s.listed) id at ty by h.1 p (facts.is_false (is_borrow form) (facts.right_of (is_none by) _ h.0))))
 
   abbrev InPlace : ℕ → TyId → Form → Type 0
@@ -281,5 +280,5 @@ module _ (items : ItemTable) (body : BodyTree) (told : Told items) (fuel : ℕ) 
         of_kind : (b : Bool) → is_place form ≡ b →
             PlaceOk items body to (extended ToContent ((shape_of items form (head id ty by)).place aliases))
         of_kind true p = of_form form h.1 p
-        of_kind false p = never (plains.no_reference items told ty (form_plain items told form (x, s.listed) id at ty by h.1 p
+        of_kind false p = never (pass_cell_plain_types.no_reference items told ty (form_plain items told form (x, s.listed) id at ty by h.1 p
             (facts.is_false (is_borrow form) (facts.right_of (is_none by) _ h.0))))

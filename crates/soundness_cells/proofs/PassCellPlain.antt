@@ -1,130 +1,35 @@
 -- What has a value but is no borrow is of a type in the table that is no reference and no trait object: so a reference
 -- is named by a variable, and else only passed.
 -- A loop is of the type of a break out of it, so what breaks carry is looked at too. One line a form.
-use Rattle.std.proofs.Common.{◌≡◌, ◌⊎◌, inl, inr, ℕ, ◌==◌, ◌&&◌, ◌||◌, not, Bool, true, false, List, [], ◌∷◌, ◌++◌, length, Option, Some, None, is_none, is_some, slice_get, if◌then◌else◌, refl, ap, sym, ◌∙◌, subst}
-use Rattle.std.specs.Prelude.{option_and_then, replicate}
-use Rattle.std.specs.List.{filter_map, cons_option, list_all, list_any}
-use Rattle.std.specs.Option.{option_map_or}
+use Rattle.std.proofs.Common.{◌≡◌, ◌⊎◌, inl, inr, ℕ, ◌==◌, ◌&&◌, not, Bool, true, false, List, [], ◌∷◌, ◌++◌, length, Option, is_none, slice_get, if◌then◌else◌, refl, sym, ◌∙◌, subst}
+use Rattle.std.specs.List.{list_any}
 use Rattle.std.proofs.lemmas.Bool.{false≢true}
-use Rattle.std.proofs.lemmas.Option.{none-some}
 use Rattle.mir_base.specs.declared.int_kind.IntKind.{IntKind}
 use Rattle.mir_base.specs.declared.place_in_text.Pos.{Pos}
-use Rattle.mir_ty.specs.declared.ty.Ty.{Ty}
 use Rattle.mir_ty.specs.declared.ty.TyId.{TyId}
 use Rattle.mir_ty.specs.Facts.{is_copy}
 use Rattle.mir_ty.specs.ItemTable.{ItemTable, type_at}
-use Rattle.mir_ty.specs.Parts.{field_ty}
 use Rattle.typed_tree.specs.declared.node.Use.{Use}
-use Rattle.typed_tree.specs.Nodes.{nodes_of, nodes_in, nodes_among, nodes_of_fields, nodes_if_any}
+use Rattle.typed_tree.specs.Nodes.{nodes_of, nodes_among, nodes_of_fields}
 use Rattle.typed_tree.specs.Tree as tree
-use Rattle.typed_tree.specs.Tree.{Node, node, Form, Nodes, no_node, a_node, Fields, no_field, a_field, MaybeNode, absent, present}
+use Rattle.typed_tree.specs.Tree.{Node, node, Form, Nodes, no_node, a_node, Fields, no_field, a_field, absent, present}
 use Rattle.well_typed.specs.Claim.{Claim, Holds, fact, both, some}
 use Rattle.well_typed.specs.Names.{are_distinct_numbers}
 use Rattle.well_typed.specs.Nodes as typing
 use Rattle.well_typed.specs.Patterns as patterns
-use Rattle.well_typed.specs.Patterns.{Matched, entries_of}
-use Rattle.well_typed.specs.Places.{LoopAround, Context, loop_with, in_guard, ty_of, form_of, is_place, is_borrow, is_by, taking, may_take, stands, borrow_by, Standing, Taken, Wanted, Passed, Base, Used, Stored}
+use Rattle.well_typed.specs.Patterns.{Matched}
+use Rattle.well_typed.specs.Places.{LoopAround, Context, loop_with, ty_of, is_place, is_borrow, is_by, taking, may_take, stands, borrow_by, Standing, Taken, Wanted, Passed, Base, Used, Stored}
 use Rattle.well_typed.specs.Types as types
 use Rattle.soundness_cells.proofs.PassCellPatterns.{Told}
 use Rattle.soundness_cells.proofs.PassCellTypes as facts
-use Rattle.soundness_cells.proofs.PassFacts.{Standpoint, context, with_names, in_a_loop, behind}
-use Rattle.soundness_cells.proofs.PassListed.{Lists, Listed, guard_listed, with_listed, place_listed, names_listed, entries_listed, behind_listed}
+use Rattle.soundness_cells.proofs.PassFacts.{Standpoint, context, in_a_loop}
+use Rattle.soundness_cells.proofs.PassListed.{Lists, Listed, place_listed}
 use Rattle.soundness_values.proofs.PlaceTypes.{some_holds, same_type}
-
--- ---- types by their forms
-
-abbrev names_one : Option Ty → Bool
-names_one None = true
-names_one (Some (Ty.Shared to)) = true
-names_one (Some (Ty.Unique to)) = true
-names_one (Some (Ty.Dyn n)) = true
-names_one (Some ty) = false
-
--- no type in the table, a reference, or a trait object by itself
-abbrev is_bad : ItemTable → TyId → Bool
-is_bad items ty = names_one (type_at items ty)
-
-by_test : (test : Ty → Bool) → ((to : TyId) → test (Ty.Shared to) ≡ false) → ((to : TyId) → test (Ty.Unique to) ≡ false) →
-    ((n : ℕ) → test (Ty.Dyn n) ≡ false) → (o : Option Ty) → option_map_or test o false ≡ true → names_one o ≡ false
-by_test test s u d None e = absurd (false≢true e)
-by_test test s u d (Some (Ty.Shared to)) e = absurd (false≢true (sym (s to) ∙ e))
-by_test test s u d (Some (Ty.Unique to)) e = absurd (false≢true (sym (u to) ∙ e))
-by_test test s u d (Some (Ty.Dyn n)) e = absurd (false≢true (sym (d n) ∙ e))
-by_test test s u d (Some ty) e = refl
-
-by_part : {A : Type 0} (part : Ty → Option A) → ((to : TyId) → part (Ty.Shared to) ≡ None) →
-    ((to : TyId) → part (Ty.Unique to) ≡ None) → ((n : ℕ) → part (Ty.Dyn n) ≡ None) →
-    (o : Option Ty) (a : A) → option_and_then part o ≡ Some a →
-    names_one o ≡ false
-by_part part s u d None a e = absurd (none-some a e)
-by_part part s u d (Some (Ty.Shared to)) a e = absurd (none-some a (sym (s to) ∙ e))
-by_part part s u d (Some (Ty.Unique to)) a e = absurd (none-some a (sym (u to) ∙ e))
-by_part part s u d (Some (Ty.Dyn n)) a e = absurd (none-some a (sym (d n) ∙ e))
-by_part part s u d (Some ty) a e = refl
-
-by_kind : (test : IntKind → Bool) (o : Option Ty) → option_map_or test (option_and_then types.kind_in o) false ≡ true →
-    names_one o ≡ false
-by_kind test None e = absurd (false≢true e)
-by_kind test (Some (Ty.Shared to)) e = absurd (false≢true e)
-by_kind test (Some (Ty.Unique to)) e = absurd (false≢true e)
-by_kind test (Some (Ty.Dyn k)) e = absurd (false≢true e)
-by_kind test (Some ty) e = refl
-
-by_number : (o : Option Ty) → is_some (option_and_then types.kind_in o) ≡ true → names_one o ≡ false
-by_number None e = absurd (false≢true e)
-by_number (Some (Ty.Shared to)) e = absurd (false≢true e)
-by_number (Some (Ty.Unique to)) e = absurd (false≢true e)
-by_number (Some (Ty.Dyn k)) e = absurd (false≢true e)
-by_number (Some ty) e = refl
-
-by_adt : (n : ℕ) (o : Option Ty) → option_map_or (λ m. m == n) (option_and_then types.adt_in o) false ≡ true →
-    names_one o ≡ false
-by_adt n None e = absurd (false≢true e)
-by_adt n (Some (Ty.Shared to)) e = absurd (false≢true e)
-by_adt n (Some (Ty.Unique to)) e = absurd (false≢true e)
-by_adt n (Some (Ty.Dyn k)) e = absurd (false≢true e)
-by_adt n (Some ty) e = refl
-
-by_closure : (n : ℕ) (o : Option Ty) → option_map_or (λ m. m == n) (option_and_then types.closure_in o) false ≡ true →
-    names_one o ≡ false
-by_closure n None e = absurd (false≢true e)
-by_closure n (Some (Ty.Shared to)) e = absurd (false≢true e)
-by_closure n (Some (Ty.Unique to)) e = absurd (false≢true e)
-by_closure n (Some (Ty.Dyn k)) e = absurd (false≢true e)
-by_closure n (Some ty) e = refl
-
--- a box of a trait object
-by_object : (n : ℕ) (dyn_of : TyId → Option ℕ) (o : Option Ty) →
-    option_map_or (λ m. m == n) (option_and_then dyn_of (option_and_then types.boxed_in o)) false ≡ true →
-    names_one o ≡ false
-by_object n dyn_of None e = absurd (false≢true e)
-by_object n dyn_of (Some (Ty.Shared to)) e = absurd (false≢true e)
-by_object n dyn_of (Some (Ty.Unique to)) e = absurd (false≢true e)
-by_object n dyn_of (Some (Ty.Dyn k)) e = absurd (false≢true e)
-by_object n dyn_of (Some ty) e = refl
-
--- ---- none of some values
-
-none_both : {A B : Type 0} (f : A → Option B) (test : B → Bool) (a b : List A) →
-    list_any test (filter_map f a) ≡ false → list_any test (filter_map f b) ≡ false →
-    list_any test (filter_map f (a ++ b)) ≡ false
-none_both f test [] b h k = k
-none_both {A} {B} f test (x ∷ a) b h k = by (f x) h (λ i. none_both f test a b i k)
-  where
-    by : (o : Option B) → list_any test (cons_option o (filter_map f a)) ≡ false →
-        (list_any test (filter_map f a) ≡ false → list_any test (filter_map f (a ++ b)) ≡ false) →
-        list_any test (cons_option o (filter_map f (a ++ b))) ≡ false
-    by None h later = later h
-    by (Some y) h later = one (test y) h
-      where
-        one : (c : Bool) → (c || list_any test (filter_map f a)) ≡ false →
-            (c || list_any test (filter_map f (a ++ b))) ≡ false
-        one true h = absurd (false≢true (sym h))
-        one false h = later h
+use Rattle.soundness_cells.proofs.PassCellPlainTypes as pass_cell_plain_types
+use Rattle.soundness_cells.proofs.PassCellPlainTypes.{is_bad, by_part, by_kind, by_number, by_adt, by_closure, by_object, none_both, never_plain, unit_plain, bool_plain, alone_plain, plain_listed, result_plain, common_plain, tail_at, after, named, guarded, not_same, not_unit, broken, pattern_free}
 
 module _ (items : ItemTable) (told : Told items) where
-  -- where the types of all names in scope are in the table
-  abbrev pub Known : Type 0
+  abbrev Known : Type 0
   Known = (x : Standpoint) × Listed items x
 
   abbrev K : Known → Context
@@ -133,201 +38,23 @@ module _ (items : ItemTable) (told : Told items) where
   abbrev looped : LoopAround → Known → Known
   looped a x = (in_a_loop a x.0, x.1)
 
-  -- of such a type
   abbrev Plain : TyId → Type 0
   Plain ty = is_bad items ty ≡ false
 
   abbrev AllPlain : List TyId → Type 0
-  AllPlain [] = Unit {0}
-  AllPlain (ty ∷ tys) = Plain ty × AllPlain tys
-
-  one_of_plain : (ty : TyId) (tys : List TyId) → list_any (types.is_same ty) tys ≡ true → AllPlain tys → Plain ty
-  one_of_plain ty [] e p = absurd (false≢true e)
-  one_of_plain ty (t ∷ tys) e p = by (facts.one_of (types.is_same ty t) (list_any (types.is_same ty) tys) e)
-      (λ f. one_of_plain ty tys f p.1)
-    where
-      by : (types.is_same ty t ≡ true) ⊎ (list_any (types.is_same ty) tys ≡ true) →
-          (list_any (types.is_same ty) tys ≡ true → Plain ty) → Plain ty
-      by (inl same) later = subst Plain (sym (same_type ty t same)) p.0
-      by (inr rest) later = later rest
-
-  never_plain : (ty : TyId) → types.is_never items ty ≡ true → Plain ty
-  never_plain ty e = by_test types.is_never_ty (λ to. refl) (λ to. refl) (λ k. refl) (type_at items ty) e
-
-  unit_plain : (ty : TyId) → types.is_unit items ty ≡ true → Plain ty
-  unit_plain ty e = by_test types.is_unit_ty (λ to. refl) (λ to. refl) (λ k. refl) (type_at items ty) e
-
-  bool_plain : (ty : TyId) → types.is_bool items ty ≡ true → Plain ty
-  bool_plain ty e = by_test types.is_bool_ty (λ to. refl) (λ to. refl) (λ k. refl) (type_at items ty) e
-
-  alone_plain : (o : Option Ty) → is_some o ≡ true → (not (Rattle.store_model.specs.Places.Place.is_reference o)
-      && not (Rattle.store_model.specs.Places.TypeForms.is_dyn o)) ≡ true → names_one o ≡ false
-  alone_plain None l e = absurd (false≢true l)
-  alone_plain (Some (Ty.Shared to)) l e = absurd (false≢true e)
-  alone_plain (Some (Ty.Unique to)) l e = absurd (false≢true e)
-  alone_plain (Some (Ty.Dyn n)) l e = absurd (false≢true e)
-  alone_plain (Some ty) l e = refl
-
-  -- neither a reference nor a trait object
-  pub plain_alone : (o : Option Ty) → names_one o ≡ false → (not (Rattle.store_model.specs.Places.Place.is_reference o)
-      && not (Rattle.store_model.specs.Places.TypeForms.is_dyn o)) ≡ true
-  plain_alone None e = absurd (false≢true (sym e))
-  plain_alone (Some (Ty.Shared to)) e = absurd (false≢true (sym e))
-  plain_alone (Some (Ty.Unique to)) e = absurd (false≢true (sym e))
-  plain_alone (Some (Ty.Dyn n)) e = absurd (false≢true (sym e))
-  plain_alone (Some ty) e = refl
-
-  -- so no reference
-  pub no_reference : (ty : TyId) → Plain ty → types.is_reference items ty ≡ false
-  no_reference ty e = by (type_at items ty) e
-    where
-      by : (o : Option Ty) → names_one o ≡ false → is_some (option_and_then types.reference_in o) ≡ false
-      by None e = refl
-      by (Some (Ty.Shared to)) e = absurd (false≢true (sym e))
-      by (Some (Ty.Unique to)) e = absurd (false≢true (sym e))
-      by (Some ty) e = refl
-
-  -- and in the table
-  pub plain_listed : (ty : TyId) → Plain ty → Lists items ty
-  plain_listed ty e = by (type_at items ty) e
-    where
-      by : (o : Option Ty) → names_one o ≡ false → is_some o ≡ true
-      by None e = absurd (false≢true (sym e))
-      by (Some ty) e = refl
-
-  result_plain : (ty result : TyId) → types.is_same ty result ≡ true → facts.Alone items result → Lists items result →
-      Plain ty
-  result_plain ty result e a l = subst Plain (sym (same_type ty result e))
-      (alone_plain (type_at items result) l a)
-
-  -- the type of some branches
-  common_plain : (ty : TyId) (tys : List TyId) → types.is_common items ty tys ≡ true → AllPlain tys → Plain ty
-  common_plain ty tys e p = by (facts.one_of (types.is_never items ty) (list_any (types.is_same ty) tys)
-      (facts.right_of (list_all (types.fits items ty) tys) _ e))
-    where
-      by : (types.is_never items ty ≡ true) ⊎ (list_any (types.is_same ty) tys ≡ true) → Plain ty
-      by (inl n) = never_plain ty n
-      by (inr a) = one_of_plain ty tys a p
-
-  tail_at : (stmts : Nodes) (x : Standpoint) (rest : Context → Claim) →
-      Holds (typing.statements (context items x) stmts rest) → Holds (rest (context items (behind x stmts)))
-  tail_at no_node x rest h = h
-  tail_at (a_node (node id at ty by form) more) x rest h =
-      tail_at more (with_names (typing.entries_in form) x) rest h.1.1
-
-  abbrev after : (stmts : Nodes) (x : Known) (rest : Context → Claim) → Holds (typing.statements (K x) stmts rest) →
-      Known
-  after stmts x rest h = (behind x.0 stmts, behind_listed items told stmts x.0 rest h x.1)
-
-  -- with the names of a pattern in scope, in its guard too, and with those of a statement
-  abbrev named : (p : Node) (m : Matched) (want : TyId) (x : Known) → Holds (patterns.pattern items m want p) →
-      Lists items want → Known
-  named p m want x h l = (
-    with_names (entries_of p) x.0,
-    with_listed items (entries_of p) x.0 (names_listed items told p m want h l) x.1,
-  )
-
-  abbrev guarded : (p : Node) (m : Matched) (want : TyId) (x : Known) → Holds (patterns.pattern items m want p) →
-      Lists items want → Known
-  guarded p m want x h l = (
-    with_names (in_guard (entries_of p)) x.0,
-    with_listed items (in_guard (entries_of p)) x.0
-        (guard_listed items (entries_of p) (names_listed items told p m want h l)) x.1,
-  )
+  AllPlain = pass_cell_plain_types.AllPlain items told
 
   abbrev stated : (form : Form) (x : Known) → Holds (typing.statement (K x) form) → Known
-  stated form x h = (
-    with_names (typing.entries_in form) x.0,
-    with_listed items (typing.entries_in form) x.0 (entries_listed items told form x.0 h) x.1,
-  )
+  stated = pass_cell_plain_types.stated items told
 
-  -- no break out of a loop that is among these nodes carries a value of a type
   abbrev Free : TyId → ℕ → Node → Type 0
   Free want loop n = list_any (typing.carries_ty items want) (typing.carried loop n) ≡ false
 
-  -- nodes, fields and a node that may be there stand for forms that hold them
   abbrev FreeAll : TyId → ℕ → Nodes → Type 0
   FreeAll want loop ns = (id : ℕ) (at : Pos) (ty : TyId) (by : Option Use) → Free want loop (node id at ty by (tree.Tuple ns))
 
   abbrev FreeFields : TyId → ℕ → Fields → Type 0
-  FreeFields want loop fs =
-      (id : ℕ) (at : Pos) (ty : TyId) (by : Option Use) → Free want loop (node id at ty by (tree.StructPattern fs))
-
-  abbrev FreeMaybe : TyId → ℕ → MaybeNode → Type 0
-  FreeMaybe want loop m =
-      (id : ℕ) (at : Pos) (ty : TyId) (by : Option Use) → Free want loop (node id at ty by (tree.Return m))
-
-  not_same : (want ty : TyId) → is_bad items want ≡ true → Plain ty → types.is_same want ty ≡ false
-  not_same want ty r p = by (types.is_same want ty) refl
-    where
-      by : (b : Bool) → types.is_same want ty ≡ b → b ≡ false
-      by false e = refl
-      by true e = absurd (false≢true (sym (subst Plain (sym (same_type want ty e)) p) ∙ r))
-
-  not_unit : (want : TyId) → is_bad items want ≡ true → types.is_unit items want ≡ false
-  not_unit want r = by (types.is_unit items want) refl
-    where
-      by : (b : Bool) → types.is_unit items want ≡ b → b ≡ false
-      by false e = refl
-      by true e = absurd (false≢true (sym (unit_plain want e) ∙ r))
-
-  -- of a break itself
-  broken : (want : TyId) (value : MaybeNode) (b : Bool) (rest : List MaybeNode) →
-      typing.carries_ty items want value ≡ false → list_any (typing.carries_ty items want) rest ≡ false →
-      list_any (typing.carries_ty items want) (cons_option (if b then Some value else None) rest) ≡ false
-  broken want value true rest c f = ap (λ d. d || list_any (typing.carries_ty items want) rest) c ∙ f
-  broken want value false rest c f = f
-
-  -- ---- patterns carry nothing
-
-  mutual
-    pattern_free : (want : TyId) (loop : ℕ) (p : Node) (m : Matched) (ty : TyId) →
-        Holds (patterns.pattern items m ty p) → Free want loop p
-    pattern_free want loop (node id at ty by form) m t h = form_pattern want loop form m id at ty by h.1
-
-    form_pattern : (want : TyId) (loop : ℕ) (form : Form) (m : Matched) (id : ℕ) (at : Pos) (ty : TyId)
-        (by : Option Use) → Holds (patterns.pattern_row items m ty by form) → Free want loop (node id at ty by form)
-    form_pattern want loop tree.Wildcard m id at ty by h = refl
-    form_pattern want loop (tree.Binding name) m id at ty by h = refl
-    form_pattern want loop (tree.NumberPattern value) m id at ty by h = refl
-    form_pattern want loop (tree.TruthPattern value) m id at ty by h = refl
-    form_pattern want loop (tree.StructPattern fields) m id at ty by h =
-        fields_pattern want loop fields _ ty 0 h.1.1.1 id at ty by
-    form_pattern want loop (tree.VariantPattern variant is_test fields) m id at ty by h =
-        fields_pattern want loop fields _ ty variant h.1.1.1 id at ty by
-    form_pattern want loop (tree.TuplePattern parts) m id at ty by h =
-        let t = some_holds (patterns.tuple_types items ty) (λ tys. patterns.part_patterns items m tys parts) h.1 in
-        parts_pattern want loop parts m t.0 t.1.1 id at ty by
-    form_pattern want loop (tree.ArrayPattern elements) m id at ty by h =
-        let t = some_holds (types.array_of items ty)
-        (λ a. patterns.part_patterns items m (replicate a.1 a.0) elements) h.1 in
-        parts_pattern want loop elements m (replicate t.0.1 t.0.0) t.1.1 id at ty by
-    form_pattern want loop (tree.OrPattern alternatives) m id at ty by h =
-        each_pattern want loop alternatives m ty h.1.1 id at ty by
-    form_pattern want loop form m id at ty by h = absurd (false≢true h)
-
-    fields_pattern : (want : TyId) (loop : ℕ) (fs : Fields) (m : Matched) (ty : TyId) (variant : ℕ) →
-        Holds (patterns.field_patterns items m ty variant fs) → FreeFields want loop fs
-    fields_pattern want loop no_field m ty variant h id at t by = refl
-    fields_pattern want loop (a_field number value rest) m ty variant h id at t by =
-        let s = some_holds (field_ty items ty variant number) (λ u. patterns.pattern items m u value) h.0 in
-        none_both _ _ (nodes_of value) (nodes_of_fields rest) (pattern_free want loop value m s.0 s.1.1)
-        (fields_pattern want loop rest m ty variant h.1 id at t by)
-
-    parts_pattern : (want : TyId) (loop : ℕ) (ns : Nodes) (m : Matched) (tys : List TyId) →
-        Holds (patterns.part_patterns items m tys ns) → FreeAll want loop ns
-    parts_pattern want loop no_node m tys h id at t by = refl
-    parts_pattern want loop (a_node one rest) m [] h id at t by = absurd (false≢true h)
-    parts_pattern want loop (a_node one rest) m (ty ∷ tys) h id at t by =
-        none_both _ _ (nodes_of one) (nodes_among rest) (pattern_free want loop one m ty h.0)
-        (parts_pattern want loop rest m tys h.1 id at t by)
-
-    each_pattern : (want : TyId) (loop : ℕ) (ns : Nodes) (m : Matched) (ty : TyId) →
-        Holds (patterns.each_pattern items m ty ns) → FreeAll want loop ns
-    each_pattern want loop no_node m ty h id at t by = refl
-    each_pattern want loop (a_node one rest) m ty h id at t by =
-        none_both _ _ (nodes_of one) (nodes_among rest) (pattern_free want loop one m ty h.0)
-        (each_pattern want loop rest m ty h.1 id at t by)
+  FreeFields = pass_cell_plain_types.FreeFields items told
 
   -- ---- expressions
 
@@ -339,7 +66,7 @@ module _ (items : ItemTable) (told : Told items) where
       of_kind : (b : Bool) → is_place form ≡ b → Holds (if b then both (fact (is_by (taking items ty) by))
           (both (fact (may_take (K x) (is_copy items ty) ty form)) (fact (not (types.is_reference items ty))))
           else fact (is_none by && not (is_borrow form))) → Plain ty
-      of_kind true p h = alone_plain (type_at items ty) (place p)
+      of_kind true p h = alone_plain items told (type_at items ty) (place p)
           (facts.used_alone items ty (Rattle.well_typed.specs.Places.may_move_by (K x) form) h.1.0 h.1.1)
       of_kind false p h = later p (facts.is_false (is_borrow form) (facts.right_of (is_none by) _ h))
 
@@ -370,26 +97,26 @@ module _ (items : ItemTable) (told : Told items) where
     pub form_plain : (form : Form) (x : Known) (id : ℕ) (at : Pos) (ty : TyId) (by : Option Use) →
         Holds (typing.row (K x) id ty form) → is_place form ≡ false → is_borrow form ≡ false → Plain ty
     form_plain (tree.Number value) x id at ty by h p b = by_kind (types.is_within value) (type_at items ty) h
-    form_plain (tree.Truth value) x id at ty by h p b = bool_plain ty h
-    form_plain tree.UnitValue x id at ty by h p b = unit_plain ty h
-    form_plain (tree.Not operand) x id at ty by h p b = bool_plain ty h.1.1
+    form_plain (tree.Truth value) x id at ty by h p b = bool_plain items told ty h
+    form_plain tree.UnitValue x id at ty by h p b = unit_plain items told ty h
+    form_plain (tree.Not operand) x id at ty by h p b = bool_plain items told ty h.1.1
     form_plain (tree.Negate operand) x id at ty by h p b =
         subst Plain (sym (same_type ty (ty_of operand) h.1.0)) (taken_plain operand x h.0)
     form_plain (tree.Arithmetic operator left right) x id at ty by h p b = by_number (type_at items ty) h.1.1.0
-    form_plain (tree.Comparison operator left right) x id at ty by h p b = bool_plain ty h.1.1.1
-    form_plain (tree.And left right) x id at ty by h p b = bool_plain ty h.1.1.1.1
-    form_plain (tree.Or left right) x id at ty by h p b = bool_plain ty h.1.1.1.1
-    form_plain (tree.Assign target value) x id at ty by h p b = unit_plain ty h.1.1.1
+    form_plain (tree.Comparison operator left right) x id at ty by h p b = bool_plain items told ty h.1.1.1
+    form_plain (tree.And left right) x id at ty by h p b = bool_plain items told ty h.1.1.1.1
+    form_plain (tree.Or left right) x id at ty by h p b = bool_plain items told ty h.1.1.1.1
+    form_plain (tree.Assign target value) x id at ty by h p b = unit_plain items told ty h.1.1.1
     form_plain (tree.Call callee args) x id at ty by h p b =
         let t = some_holds (slice_get items.bodies callee)
         (λ sig. both (fact (types.is_same ty sig.result)) (typing.arguments (K x) sig.params args)) h.0 in
-        result_plain ty t.0.result t.1.1.0 (told.results callee t.0 t.1.0)
+        result_plain items told ty t.0.result t.1.1.0 (told.results callee t.0 t.1.0)
         (told.listed_results callee t.0 t.1.0)
     form_plain (tree.MethodCall callee receiver args) x id at ty by h p b =
         let t = some_holds (slice_get items.bodies callee) (λ sig. both (fact (types.is_same ty sig.result))
         (typing.first_and_rest (λ t. typing.typed (K x) (Passed t) receiver) (λ ts. typing.arguments (K x) ts args)
         sig.params)) h.0 in
-        result_plain ty t.0.result t.1.1.0 (told.results callee t.0 t.1.0)
+        result_plain items told ty t.0.result t.1.1.0 (told.results callee t.0 t.1.0)
         (told.listed_results callee t.0 t.1.0)
     form_plain (tree.VirtualCall trait_no method receiver args) x id at ty by h p b =
         let d = some_holds (slice_get items.traits trait_no) (λ def. some (slice_get def.methods method)
@@ -399,13 +126,13 @@ module _ (items : ItemTable) (told : Told items) where
         let s = some_holds (slice_get d.0.methods method) (λ sig. both (fact (types.is_same ty sig.result))
         (typing.first_and_rest (λ t. typing.typed (K x) (Passed t) receiver) (λ ts. typing.arguments (K x) ts args)
         sig.params)) d.1.1 in
-        result_plain ty s.0.result s.1.1.0 (told.methods trait_no method d.0 s.0 d.1.0 s.1.0).0
+        result_plain items told ty s.0.result s.1.1.0 (told.methods trait_no method d.0 s.0 d.1.0 s.1.0).0
         (told.listed_methods trait_no method d.0 s.0 d.1.0 s.1.0)
     form_plain (tree.ClosureCall callee inside args) x id at ty by h p b =
         let t = some_holds (slice_get items.bodies callee) (λ sig. both (fact (types.is_same ty sig.result))
         (typing.first_and_rest (λ t. typing.typed (K x) (Passed t) inside) (λ ts. typing.arguments (K x) ts args)
         sig.params)) h.0 in
-        result_plain ty t.0.result t.1.1.0 (told.results callee t.0 t.1.0)
+        result_plain items told ty t.0.result t.1.1.0 (told.results callee t.0 t.1.0)
         (told.listed_results callee t.0 t.1.0)
     form_plain (tree.Make adt variant fields) x id at ty by h p b = by_adt adt (type_at items ty) h.0
     form_plain (tree.Tuple parts) x id at ty by h p b =
@@ -420,33 +147,33 @@ module _ (items : ItemTable) (told : Told items) where
         let t = some_holds (types.boxed_of items ty)
         (λ inside. both (typing.typed (K x) (Wanted inside) content) (fact (not (types.is_dyn items inside)))) h in
         by_part types.boxed_in (λ to. refl) (λ to. refl) (λ k. refl) (type_at items ty) t.0 t.1.0
-    form_plain (tree.Print operand) x id at ty by h p b = unit_plain ty h.1.1
+    form_plain (tree.Print operand) x id at ty by h p b = unit_plain items told ty h.1.1
     form_plain tree.Ask x id at ty by h p b = by_kind (types.is_kind IntKind.I32) (type_at items ty) h
-    form_plain (tree.DropValue operand) x id at ty by h p b = unit_plain ty h.1
-    form_plain (tree.Forget operand) x id at ty by h p b = unit_plain ty h.1
-    form_plain tree.Panic x id at ty by h p b = never_plain ty h
+    form_plain (tree.DropValue operand) x id at ty by h p b = unit_plain items told ty h.1
+    form_plain (tree.Forget operand) x id at ty by h p b = unit_plain items told ty h.1
+    form_plain tree.Panic x id at ty by h p b = never_plain items told ty h
     form_plain (tree.Unsize trait_no operand) x id at ty by h p b = by_object trait_no (types.trait_of items)
         (type_at items ty) (facts.left_of _ _ h.1.1)
     form_plain (tree.Block stmts absent) x id at ty by h p b = of_end (typing.ends_in items stmts) h.1
       where
         of_end : (e : Bool) → (if e then types.is_never items ty else types.is_unit items ty) ≡ true → Plain ty
-        of_end true k = never_plain ty k
-        of_end false k = unit_plain ty k
+        of_end true k = never_plain items told ty k
+        of_end false k = unit_plain items told ty k
     form_plain (tree.Block stmts (present tail)) x id at ty by h p b =
         subst Plain (sym (same_type ty (ty_of tail) h.1))
-        (taken_plain tail (after stmts x (λ d. typing.tail_of d (present tail)) h.0)
-        (tail_at stmts x.0 (λ d. typing.tail_of d (present tail)) h.0))
-    form_plain (tree.If condition consequent absent) x id at ty by h p b = unit_plain ty h.1.1.1.1
+        (taken_plain tail (after items told stmts x (λ d. typing.tail_of d (present tail)) h.0)
+        (tail_at items told stmts x.0 (λ d. typing.tail_of d (present tail)) h.0))
+    form_plain (tree.If condition consequent absent) x id at ty by h p b = unit_plain items told ty h.1.1.1.1
     form_plain (tree.If condition consequent (present otherwise)) x id at ty by h p b =
-        common_plain ty (ty_of consequent ∷ ty_of otherwise ∷ []) h.1.1.1.1
+        common_plain items told ty (ty_of consequent ∷ ty_of otherwise ∷ []) h.1.1.1.1
         (taken_plain consequent x h.1.1.0, (taken_plain otherwise x h.1.1.1.0, tt))
-    form_plain (tree.IfLet pattern scrutinee consequent absent) x id at ty by h p b = unit_plain ty h.1.1.1.1
+    form_plain (tree.IfLet pattern scrutinee consequent absent) x id at ty by h p b = unit_plain items told ty h.1.1.1.1
     form_plain (tree.IfLet pattern scrutinee consequent (present otherwise)) x id at ty by h p b =
-        common_plain ty (ty_of consequent ∷ ty_of otherwise ∷ []) h.1.1.1.1 (
-          taken_plain consequent (named pattern _ (ty_of scrutinee) x h.1.0.1 (used_listed scrutinee x h.0)) h.1.1.0,
+        common_plain items told ty (ty_of consequent ∷ ty_of otherwise ∷ []) h.1.1.1.1 (
+          taken_plain consequent (named items told pattern _ (ty_of scrutinee) x h.1.0.1 (used_listed scrutinee x h.0)) h.1.1.0,
           (taken_plain otherwise x h.1.1.1.0, tt),
         )
-    form_plain (tree.Match scrutinee arms) x id at ty by h p b = common_plain ty (typing.types_in arms) h.1.1.0
+    form_plain (tree.Match scrutinee arms) x id at ty by h p b = common_plain items told ty (typing.types_in arms) h.1.1.0
         (arms_plain arms x (typing.matched_in false (K x) scrutinee) (ty_of scrutinee) (used_listed scrutinee x h.0)
         h.1.0)
     form_plain (tree.Loop body) x id at ty by h p b = of_type (is_bad items ty) refl h.1.1
@@ -461,13 +188,13 @@ module _ (items : ItemTable) (told : Told items) where
           where
             of_never : (types.is_never items ty ≡ true)
                 ⊎ (list_any (typing.carries_ty items ty) (typing.carried id body) ≡ true) → ⊥
-            of_never (inl n) = false≢true (sym (never_plain ty n) ∙ e)
+            of_never (inl n) = false≢true (sym (never_plain items told ty n) ∙ e)
             of_never (inr c) = false≢true (sym (f e) ∙ c)
-    form_plain (tree.While condition body) x id at ty by h p b = unit_plain ty h.1.1.1.1
-    form_plain (tree.WhileLet pattern scrutinee body) x id at ty by h p b = unit_plain ty h.1.1.1.1
-    form_plain (tree.Break loop value) x id at ty by h p b = never_plain ty h.1
-    form_plain (tree.Continue loop) x id at ty by h p b = never_plain ty h.1
-    form_plain (tree.Return value) x id at ty by h p b = never_plain ty h.1
+    form_plain (tree.While condition body) x id at ty by h p b = unit_plain items told ty h.1.1.1.1
+    form_plain (tree.WhileLet pattern scrutinee body) x id at ty by h p b = unit_plain items told ty h.1.1.1.1
+    form_plain (tree.Break loop value) x id at ty by h p b = never_plain items told ty h.1
+    form_plain (tree.Continue loop) x id at ty by h p b = never_plain items told ty h.1
+    form_plain (tree.Return value) x id at ty by h p b = never_plain items told ty h.1
     form_plain (tree.Variable key) x id at ty by h p b = absurd (false≢true (sym p))
     form_plain (tree.Captured closure part name) x id at ty by h p b = absurd (false≢true (sym p))
     form_plain (tree.Field base part) x id at ty by h p b = absurd (false≢true (sym p))
@@ -481,7 +208,7 @@ module _ (items : ItemTable) (told : Told items) where
     used_listed (node id at ty by form) x h = of_kind (is_place form) refl
         (facts.left_of _ (not (types.is_reference items ty)) h.0)
         (λ p. place_listed items told form x.0 id ty x.1 h.1 p)
-        (λ p b. plain_listed ty (form_plain form x id at ty by h.1 p b))
+        (λ p b. plain_listed items told ty (form_plain form x id at ty by h.1 p b))
       where
         of_kind : (b : Bool) → is_place form ≡ b →
             (if b then is_by Use.Borrow by else is_none by && not (is_borrow form)) ≡ true →
@@ -500,7 +227,7 @@ module _ (items : ItemTable) (told : Told items) where
         (by : Option Use) → Holds (typing.arm (K x) m want (node id at ty by form)) → Plain ty
     arm_plain (tree.Arm pattern guard body) x m want l id at ty by h =
         subst Plain (sym (same_type ty (ty_of body) h.1.1.1.1.1))
-        (taken_plain body (named pattern m want x h.1.1.0 l) h.1.1.1.1.0)
+        (taken_plain body (named items told pattern m want x h.1.1.0 l) h.1.1.1.1.0)
     arm_plain form x m want l id at ty by h = absurd (false≢true h)
 
     -- ---- no break carries a reference
@@ -598,8 +325,8 @@ module _ (items : ItemTable) (told : Told items) where
     form_free want loop r (tree.Block stmts (present tail)) x id at ty by h =
         none_both _ _ (nodes_among stmts) (nodes_of tail)
         (statements_free want loop r stmts x (λ d. typing.tail_of d (present tail)) h.0 id at ty by)
-        (node_free want loop r tail (after stmts x (λ d. typing.tail_of d (present tail)) h.0) Taken
-        (tail_at stmts x.0 (λ d. typing.tail_of d (present tail)) h.0))
+        (node_free want loop r tail (after items told stmts x (λ d. typing.tail_of d (present tail)) h.0) Taken
+        (tail_at items told stmts x.0 (λ d. typing.tail_of d (present tail)) h.0))
     form_free want loop r (tree.If condition consequent absent) x id at ty by h =
         none_both _ _ (nodes_of condition ++ nodes_of consequent) []
         (none_both _ _ (nodes_of condition) (nodes_of consequent) (node_free want loop r condition x Taken h.0)
@@ -612,16 +339,16 @@ module _ (items : ItemTable) (told : Told items) where
     form_free want loop r (tree.IfLet pattern scrutinee consequent absent) x id at ty by h =
         none_both _ _ ((nodes_of pattern ++ nodes_of scrutinee) ++ nodes_of consequent) []
         (none_both _ _ (nodes_of pattern ++ nodes_of scrutinee) (nodes_of consequent)
-        (none_both _ _ (nodes_of pattern) (nodes_of scrutinee) (pattern_free want loop pattern _ (ty_of scrutinee) h.1.0.1)
+        (none_both _ _ (nodes_of pattern) (nodes_of scrutinee) (pattern_free items told want loop pattern _ (ty_of scrutinee) h.1.0.1)
         (node_free want loop r scrutinee x (Used Use.Borrow) h.0))
-        (node_free want loop r consequent (named pattern _ (ty_of scrutinee) x h.1.0.1 (used_listed scrutinee x h.0)) Taken
+        (node_free want loop r consequent (named items told pattern _ (ty_of scrutinee) x h.1.0.1 (used_listed scrutinee x h.0)) Taken
         h.1.1.0)) refl
     form_free want loop r (tree.IfLet pattern scrutinee consequent (present otherwise)) x id at ty by h =
         none_both _ _ ((nodes_of pattern ++ nodes_of scrutinee) ++ nodes_of consequent) (nodes_of otherwise)
         (none_both _ _ (nodes_of pattern ++ nodes_of scrutinee) (nodes_of consequent)
-        (none_both _ _ (nodes_of pattern) (nodes_of scrutinee) (pattern_free want loop pattern _ (ty_of scrutinee) h.1.0.1)
+        (none_both _ _ (nodes_of pattern) (nodes_of scrutinee) (pattern_free items told want loop pattern _ (ty_of scrutinee) h.1.0.1)
         (node_free want loop r scrutinee x (Used Use.Borrow) h.0))
-        (node_free want loop r consequent (named pattern _ (ty_of scrutinee) x h.1.0.1 (used_listed scrutinee x h.0)) Taken
+        (node_free want loop r consequent (named items told pattern _ (ty_of scrutinee) x h.1.0.1 (used_listed scrutinee x h.0)) Taken
         h.1.1.0))
         (node_free want loop r otherwise x Taken h.1.1.1.0)
     form_free want loop r (tree.Match scrutinee arms) x id at ty by h =
@@ -637,15 +364,15 @@ module _ (items : ItemTable) (told : Told items) where
     form_free want loop r (tree.WhileLet pattern scrutinee body) x id at ty by h =
         let y = looped (record { loop = id; ty = ty; has_value = false }) x in
         none_both _ _ (nodes_of pattern ++ nodes_of scrutinee) (nodes_of body)
-        (none_both _ _ (nodes_of pattern) (nodes_of scrutinee) (pattern_free want loop pattern _ (ty_of scrutinee) h.1.0.1)
+        (none_both _ _ (nodes_of pattern) (nodes_of scrutinee) (pattern_free items told want loop pattern _ (ty_of scrutinee) h.1.0.1)
         (node_free want loop r scrutinee y (Used Use.Borrow) h.0))
-        (node_free want loop r body (named pattern _ (ty_of scrutinee) y h.1.0.1 (used_listed scrutinee y h.0)) Taken h.1.1.0)
+        (node_free want loop r body (named items told pattern _ (ty_of scrutinee) y h.1.0.1 (used_listed scrutinee y h.0)) Taken h.1.1.0)
     form_free want loop r (tree.Break from absent) x id at ty by h =
-        broken want absent (loop == from) [] (not_unit want r) refl
+        broken items told want absent (loop == from) [] (not_unit items told want r) refl
     form_free want loop r (tree.Break from (present value)) x id at ty by h =
         let t = some_holds (loop_with from x.0.loops) (λ a. typing.carries (K x) a (present value)) h.0 in
-        broken want (present value) (loop == from) _
-        (not_same want (ty_of value) r (wanted_plain value x t.0.ty t.1.1.1))
+        broken items told want (present value) (loop == from) _
+        (not_same items told want (ty_of value) r (wanted_plain value x t.0.ty t.1.1.1))
         (node_free want loop r value x (Wanted t.0.ty) t.1.1.1)
     form_free want loop r (tree.Continue from) x id at ty by h = refl
     form_free want loop r (tree.Return absent) x id at ty by h = refl
@@ -704,9 +431,9 @@ module _ (items : ItemTable) (told : Told items) where
         (id : ℕ) (at : Pos) (ty : TyId) (by : Option Use) → Holds (typing.statement (K x) form) →
         Free want loop (node id at ty by form)
     statement_free want loop r (tree.Let p absent) x id at ty by h =
-        none_both _ _ (nodes_of p) [] (pattern_free want loop p _ (ty_of p) h.1.0) refl
+        none_both _ _ (nodes_of p) [] (pattern_free items told want loop p _ (ty_of p) h.1.0) refl
     statement_free want loop r (tree.Let p (present value)) x id at ty by h =
-        none_both _ _ (nodes_of p) (nodes_of value) (pattern_free want loop p _ (ty_of p) h.1.1.0)
+        none_both _ _ (nodes_of p) (nodes_of value) (pattern_free items told want loop p _ (ty_of p) h.1.1.0)
         (node_free want loop r value x (typing.as_initialiser p) h.0)
     statement_free want loop r (tree.Evaluate expression) x id at ty by h = node_free want loop r expression x Taken h
     statement_free want loop r form x id at ty by h = absurd (false≢true h)
@@ -724,11 +451,11 @@ module _ (items : ItemTable) (told : Told items) where
         Holds (typing.arm (K x) m t (node id at ty by form)) → Free want loop (node id at ty by form)
     arm_free want loop r (tree.Arm pattern absent body) x m t l id at ty by h =
         none_both _ _ (nodes_of pattern ++ []) (nodes_of body)
-        (none_both _ _ (nodes_of pattern) [] (pattern_free want loop pattern m t h.1.1.0) refl)
-        (node_free want loop r body (named pattern m t x h.1.1.0 l) Taken h.1.1.1.1.0)
+        (none_both _ _ (nodes_of pattern) [] (pattern_free items told want loop pattern m t h.1.1.0) refl)
+        (node_free want loop r body (named items told pattern m t x h.1.1.0 l) Taken h.1.1.1.1.0)
     arm_free want loop r (tree.Arm pattern (present guard) body) x m t l id at ty by h =
         none_both _ _ (nodes_of pattern ++ nodes_of guard) (nodes_of body)
-        (none_both _ _ (nodes_of pattern) (nodes_of guard) (pattern_free want loop pattern m t h.1.1.0)
-        (node_free want loop r guard (guarded pattern m t x h.1.1.0 l) Taken h.1.1.1.0.0))
-        (node_free want loop r body (named pattern m t x h.1.1.0 l) Taken h.1.1.1.1.0)
+        (none_both _ _ (nodes_of pattern) (nodes_of guard) (pattern_free items told want loop pattern m t h.1.1.0)
+        (node_free want loop r guard (guarded items told pattern m t x h.1.1.0 l) Taken h.1.1.1.0.0))
+        (node_free want loop r body (named items told pattern m t x h.1.1.0 l) Taken h.1.1.1.1.0)
     arm_free want loop r form x m t l id at ty by h = absurd (false≢true h)

@@ -1,57 +1,41 @@
 -- Small facts about the nodes of a well typed body, which the pass over the forms uses: what stands around a node, types
 -- that suit destinations, operands that are taken, assigned places, names in scope.
-use Rattle.std.proofs.Common.{◌≡◌, ◌⊎◌, inl, inr, ℕ, zero, suc, nat_lt, ◌==◌, ◌&&◌, ◌||◌, not, Bool, true, false, List, [], ◌∷◌, ◌++◌, length, Option, Some, None, is_none, is_some, slice_get, if◌then◌else◌, refl, ap, sym, ◌∙◌, subst}
-use Rattle.std.specs.Prelude.{option_and_then, replicate}
-use Rattle.std.specs.List.{list_all}
+use Rattle.std.proofs.Common.{◌≡◌, ◌⊎◌, inl, inr, ℕ, zero, suc, nat_lt, ◌&&◌, Bool, true, false, List, [], ◌∷◌, ◌++◌, length, Option, Some, None, is_some, slice_get, if◌then◌else◌, refl, ap, sym, ◌∙◌, subst}
+use Rattle.std.specs.Prelude.{option_and_then}
 use Rattle.std.specs.Option.{option_map_or}
 use Rattle.std.proofs.lemmas.Bool.{false≢true}
-use Rattle.std.proofs.lemmas.Bool.Decides.{Decides-eqb}
-use Rattle.std.proofs.lemmas.Option.{none-some}
-use Rattle.mir_base.specs.declared.place_in_text.Pos.{Pos}
-use Rattle.mir_base.specs.declared.trace.Why.{Why}
 use Rattle.mir_ty.specs.declared.ty.Ty.{Ty}
 use Rattle.mir_ty.specs.declared.ty.TyId.{TyId}
-use Rattle.mir_ty.specs.declared.adt.Variant.{Variant}
-use Rattle.mir_ty.specs.declared.def.ClosureDef.{ClosureDef}
-use Rattle.mir_ty.specs.declared.def.Sig.{Sig}
-use Rattle.mir_ty.specs.declared.def.TraitDef.{TraitDef}
 use Rattle.mir_ty.specs.Facts.{needs_drop, drop_rule, in_rounds}
 use Rattle.mir_ty.specs.ItemTable.{ItemTable, type_at}
-use Rattle.store_model.specs.Effects as effects
-use Rattle.store_model.specs.Effects.{EffectSite, Action, Effects, OfTuple, OfArray, OfVariant, OfClosure}
-use Rattle.store_model.specs.Places.Place.{Step, ToPart, ToElement, ToContent, Place, whole_local}
+use Rattle.store_model.specs.Effects.{Effects}
+use Rattle.store_model.specs.Places.Place.{ToPart, ToElement, ToContent, Place, whole_local}
 use Rattle.typed_tree.specs.declared.node.Use.{Use}
-use Rattle.typed_tree.specs.Nodes.{number_of, nodes_of, nodes_in, nodes_among, nodes_of_fields, nodes_if_any}
+use Rattle.typed_tree.specs.Nodes.{number_of, nodes_of, nodes_in}
 use Rattle.typed_tree.specs.Tree as tree
-use Rattle.typed_tree.specs.Tree.{Node, node, Form, Nodes, no_node, a_node, Fields, no_field, a_field, MaybeNode, absent, present}
-use Rattle.src_meaning.specs.Evaluation as evaluation
-use Rattle.src_meaning.specs.Evaluation.{meaning, meaning_of, meanings, fields_of, meaning_if_any, values_of, in_number_order, insert_field}
+use Rattle.typed_tree.specs.Tree.{Node, node, Form, Nodes, no_node, a_node, Fields}
+use Rattle.src_meaning.specs.Evaluation.{meaning, meanings, fields_of, values_of, in_number_order, insert_field}
 use Rattle.src_meaning.specs.Forms as forms
-use Rattle.src_meaning.specs.Forms.{Destination, Into, Coerced, coerced, LoopsAndGuards, Meaning, in_loop, loop_destination, keys_of, moved, all_moved, is_never, place_of, site_of}
-use Rattle.src_meaning.specs.Scopes.{Entry, Scope, Scopes, with_scope, Exit, Value, Breaks, Continues, Returns, Panics, Run, At, Does, on_value}
-use Rattle.src_meaning.specs.Shape as shapes
-use Rattle.src_meaning.specs.Shape.{NodeHead, head, Shape, BoundName, shape, shape_of, kind_of, extended, place_of_key}
-use Rattle.well_typed.specs.Claim.{Claim, Holds, fact, both, some, nothing}
+use Rattle.src_meaning.specs.Forms.{Destination, LoopsAndGuards, Meaning, keys_of, is_never, place_of}
+use Rattle.src_meaning.specs.Scopes.{Entry, Scopes, Exit, Value, Breaks, Continues, Returns, Panics, Does}
+use Rattle.src_meaning.specs.Shape.{NodeHead, head, shape, shape_of, place_of_key}
+use Rattle.well_typed.specs.Claim.{Claim, Holds, fact}
 use Rattle.well_typed.specs.Nodes as typing
 use Rattle.well_typed.specs.Patterns as pattern_rules
 use Rattle.well_typed.specs.Patterns.{Matched}
-use Rattle.well_typed.specs.Names.{are_distinct_numbers}
-use Rattle.well_typed.specs.Places.{InScope, LoopAround, Context, with_entries, within, entry_with, loop_with, ty_of, form_of, Standing, Taken, Wanted, Passed, Base, Used, Stored, borrow_by, in_guard, is_place}
+use Rattle.well_typed.specs.Places.{InScope, LoopAround, Context, entry_with, loop_with, ty_of, Wanted, Stored, is_place}
 use Rattle.well_typed.specs.Types as types
 use Rattle.soundness_values.proofs.Leaving.{Shown, shown_more, Among}
 use Rattle.soundness_cells.proofs.PassAround as named
-use Rattle.soundness_cells.proofs.PassBranches as branches
-use Rattle.soundness_cells.proofs.PassClear.{KeepsClear, any, Nothing, MovedByAny, operands_of}
-use Rattle.soundness_values.proofs.PassHeads.{IsName, type_is, number_is, shape_is, named_form}
-use Rattle.soundness_cells.proofs.PassLoops as loops
+use Rattle.soundness_cells.proofs.PassClear.{KeepsClear, any, Nothing}
+use Rattle.soundness_values.proofs.PassHeads.{IsName, type_is, shape_is}
 use Rattle.soundness_cells.proofs.PassNames as names
 use Rattle.soundness_cells.proofs.PassNodes as nodes
 use Rattle.soundness_cells.proofs.PassPatterns as patterns
 use Rattle.soundness_cells.proofs.PassRules as rules
 use Rattle.soundness_cells.proofs.PassRules.{InList}
 use Rattle.soundness_cells.proofs.PassScopes as scopes
-use Rattle.soundness_cells.proofs.PassScopes.{key_of, entries_of, NamedAt, Other, seq, inside}
-use Rattle.soundness_cells.proofs.PassStatements as statements
+use Rattle.soundness_cells.proofs.PassScopes.{key_of, entries_of, Other}
 use Rattle.soundness_cells.proofs.PassSteps as steps
 use Rattle.soundness_values.proofs.PlaceTypes.{some_holds, same_type}
 
@@ -96,59 +80,8 @@ right false b e = absurd (false≢true e)
 
 -- a name has nothing inside
 pub name_alone : (form : Form) → IsName form → nodes_in form ≡ []
-name_alone (tree.Number value) n = absurd n
-name_alone (tree.Truth value) n = absurd n
-name_alone tree.UnitValue n = absurd n
-name_alone (tree.Variable key) n = absurd n
-name_alone (tree.Captured closure part name) n = absurd n
-name_alone (tree.Field base part) n = absurd n
-name_alone (tree.Index base index length) n = absurd n
-name_alone (tree.Deref base) n = absurd n
-name_alone (tree.Not operand) n = absurd n
-name_alone (tree.Negate operand) n = absurd n
-name_alone (tree.Arithmetic operator left right) n = absurd n
-name_alone (tree.Comparison operator left right) n = absurd n
-name_alone (tree.And left right) n = absurd n
-name_alone (tree.Or left right) n = absurd n
-name_alone (tree.Assign target value) n = absurd n
-name_alone (tree.Call body args) n = absurd n
-name_alone (tree.MethodCall body receiver args) n = absurd n
-name_alone (tree.VirtualCall trait_no method receiver args) n = absurd n
-name_alone (tree.ClosureCall body callee args) n = absurd n
-name_alone (tree.Make adt variant fields) n = absurd n
-name_alone (tree.Tuple parts) n = absurd n
-name_alone (tree.Array elements) n = absurd n
-name_alone (tree.Closure closure captures) n = absurd n
-name_alone (tree.NewBox content) n = absurd n
-name_alone (tree.Print operand) n = absurd n
-name_alone tree.Ask n = absurd n
-name_alone (tree.DropValue operand) n = absurd n
-name_alone (tree.Forget operand) n = absurd n
-name_alone tree.Panic n = absurd n
-name_alone (tree.Borrow unique base) n = absurd n
-name_alone (tree.Unsize trait_no operand) n = absurd n
-name_alone (tree.Block statements tail) n = absurd n
-name_alone (tree.Let pattern initialiser) n = absurd n
-name_alone (tree.Evaluate expression) n = absurd n
-name_alone (tree.If condition consequent otherwise) n = absurd n
-name_alone (tree.IfLet pattern scrutinee consequent otherwise) n = absurd n
-name_alone (tree.Match scrutinee arms) n = absurd n
-name_alone (tree.Arm pattern guard body) n = absurd n
-name_alone (tree.Loop body) n = absurd n
-name_alone (tree.While condition body) n = absurd n
-name_alone (tree.WhileLet pattern scrutinee body) n = absurd n
-name_alone (tree.Break loop value) n = absurd n
-name_alone (tree.Continue loop) n = absurd n
-name_alone (tree.Return value) n = absurd n
-name_alone tree.Wildcard n = absurd n
 name_alone (tree.Binding name) n = refl
-name_alone (tree.NumberPattern value) n = absurd n
-name_alone (tree.TruthPattern value) n = absurd n
-name_alone (tree.StructPattern fields) n = absurd n
-name_alone (tree.VariantPattern variant is_test fields) n = absurd n
-name_alone (tree.TuplePattern parts) n = absurd n
-name_alone (tree.ArrayPattern elements) n = absurd n
-name_alone (tree.OrPattern alternatives) n = absurd n
+name_alone other n = absurd n
 
 module _ {V : Type 0} (items : ItemTable) (needs : ℕ → Bool) (q : Effects V) (clear : V → ℕ → Type 0)
     (keeps : KeepsClear q needs clear) (fuel : ℕ) where
@@ -292,17 +225,7 @@ module _ {V : Type 0} (items : ItemTable) (needs : ℕ → Bool) (q : Effects V)
           ≡ true
       rule k None h = absurd (false≢true h)
       rule k (Some (Ty.Boxed content)) h = refl
-      rule k (Some (Ty.Int kind)) h = absurd (false≢true h)
-      rule k (Some Ty.Bool) h = absurd (false≢true h)
-      rule k (Some Ty.Unit) h = absurd (false≢true h)
-      rule k (Some Ty.Never) h = absurd (false≢true h)
-      rule k (Some (Ty.Adt n)) h = absurd (false≢true h)
-      rule k (Some (Ty.Tuple parts)) h = absurd (false≢true h)
-      rule k (Some (Ty.Array element count)) h = absurd (false≢true h)
-      rule k (Some (Ty.Dyn n)) h = absurd (false≢true h)
-      rule k (Some (Ty.Shared to)) h = absurd (false≢true h)
-      rule k (Some (Ty.Unique to)) h = absurd (false≢true h)
-      rule k (Some (Ty.Closure n)) h = absurd (false≢true h)
+      rule k (Some other) h = absurd (false≢true h)
 
       by : (k : ℕ) → length items.types ≡ k → in_rounds items.types (drop_rule items.adts items.closures) k id ≡ true
       by zero l = absurd (empty items.types l e)
@@ -312,70 +235,22 @@ module _ {V : Type 0} (items : ItemTable) (needs : ℕ → Bool) (q : Effects V)
   pub leaf_shape : (form : Form) (c : Context) (id : ℕ) (ty : TyId) (h : NodeHead) → c.items ≡ items →
       typing.is_leaf form ≡ true → needs_drop items ty ≡ true → Holds (typing.row c id ty form) →
       (shape_of items form h).in_destination ≡ false
-  leaf_shape (tree.Number value) c id ty h i e d r = refl
-  leaf_shape (tree.Truth value) c id ty h i e d r = refl
-  leaf_shape tree.UnitValue c id ty h i e d r = refl
-  leaf_shape (tree.Variable key) c id ty h i e d r = refl
-  leaf_shape (tree.Captured closure part name) c id ty h i e d r = refl
-  leaf_shape (tree.Field base part) c id ty h i e d r = refl
-  leaf_shape (tree.Index base index length) c id ty h i e d r = refl
-  leaf_shape (tree.Deref base) c id ty h i e d r = refl
-  leaf_shape (tree.Not operand) c id ty h i e d r = refl
-  leaf_shape (tree.Negate operand) c id ty h i e d r = refl
-  leaf_shape (tree.Arithmetic operator left right) c id ty h i e d r = refl
-  leaf_shape (tree.Comparison operator left right) c id ty h i e d r = refl
-  leaf_shape (tree.And left right) c id ty h i e d r = refl
-  leaf_shape (tree.Or left right) c id ty h i e d r = refl
-  leaf_shape (tree.Assign target value) c id ty h i e d r = refl
-  leaf_shape (tree.Call body args) c id ty h i e d r = refl
-  leaf_shape (tree.MethodCall body receiver args) c id ty h i e d r = refl
-  leaf_shape (tree.VirtualCall trait_no method receiver args) c id ty h i e d r = refl
-  leaf_shape (tree.ClosureCall body callee args) c id ty h i e d r = refl
-  leaf_shape (tree.Make adt variant fields) c id ty h i e d r = refl
-  leaf_shape (tree.Tuple parts) c id ty h i e d r = refl
-  leaf_shape (tree.Array elements) c id ty h i e d r = refl
-  leaf_shape (tree.Closure closure captures) c id ty h i e d r = refl
-  leaf_shape (tree.NewBox content) c id ty h i e d r = refl
-  leaf_shape (tree.Print operand) c id ty h i e d r = refl
-  leaf_shape tree.Ask c id ty h i e d r = refl
-  leaf_shape (tree.DropValue operand) c id ty h i e d r = refl
-  leaf_shape (tree.Forget operand) c id ty h i e d r = refl
-  leaf_shape tree.Panic c id ty h i e d r = refl
-  leaf_shape (tree.Borrow unique base) c id ty h i e d r = refl
-  leaf_shape (tree.Unsize trait_no operand) c id ty h i e d r = refl
   leaf_shape (tree.Block statements tail) c id ty h i e d r = absurd (false≢true e)
-  leaf_shape (tree.Let pattern initialiser) c id ty h i e d r = refl
-  leaf_shape (tree.Evaluate expression) c id ty h i e d r = refl
   leaf_shape (tree.If condition consequent otherwise) c id ty h i e d r = absurd (false≢true e)
   leaf_shape (tree.IfLet pattern scrutinee consequent otherwise) c id ty h i e d r = absurd (false≢true e)
   leaf_shape (tree.Match scrutinee arms) c id ty h i e d r = absurd (false≢true e)
-  leaf_shape (tree.Arm pattern guard body) c id ty h i e d r = refl
   leaf_shape (tree.Loop body) c id ty h i e d r = absurd (false≢true e)
   leaf_shape (tree.While condition body) c id ty h i e d r = absurd (false≢true (sym (nodes.unit_none items needs q clear keeps fuel ty
       (subst (λ t. types.is_unit t ty ≡ true) i r.1.1.1.1)) ∙ d))
   leaf_shape (tree.WhileLet pattern scrutinee body) c id ty h i e d r = absurd (false≢true (sym (nodes.unit_none items needs q clear keeps fuel ty
       (subst (λ t. types.is_unit t ty ≡ true) i r.1.1.1.1)) ∙ d))
-  leaf_shape (tree.Break loop value) c id ty h i e d r = refl
-  leaf_shape (tree.Continue loop) c id ty h i e d r = refl
-  leaf_shape (tree.Return value) c id ty h i e d r = refl
-  leaf_shape tree.Wildcard c id ty h i e d r = refl
-  leaf_shape (tree.Binding name) c id ty h i e d r = refl
-  leaf_shape (tree.NumberPattern value) c id ty h i e d r = refl
-  leaf_shape (tree.TruthPattern value) c id ty h i e d r = refl
-  leaf_shape (tree.StructPattern fields) c id ty h i e d r = refl
-  leaf_shape (tree.VariantPattern variant is_test fields) c id ty h i e d r = refl
-  leaf_shape (tree.TuplePattern parts) c id ty h i e d r = refl
-  leaf_shape (tree.ArrayPattern elements) c id ty h i e d r = refl
-  leaf_shape (tree.OrPattern alternatives) c id ty h i e d r = refl
+  leaf_shape other c id ty h i e d r = refl
 
   -- what is assigned whole is a variable, which is an entry
   pub stored_root : (form : Form) (x : Standpoint) (id : ℕ) (ty : TyId) (by : Option Use) →
       is_place form ≡ true → Holds (typing.row (K x) id ty form) → (around : LoopsAndGuards) (S : Scopes) →
       AroundOk (K x) around S → (key : ℕ) →
       (shape_of items form (head id ty by)).place around.aliases ≡ whole_local key → Among (entries_of S) key
-  stored_root (tree.Number value) x id ty by e h around S ok k p = absurd (false≢true e)
-  stored_root (tree.Truth value) x id ty by e h around S ok k p = absurd (false≢true e)
-  stored_root tree.UnitValue x id ty by e h around S ok k p = absurd (false≢true e)
   stored_root (tree.Variable key) x id ty by e h around S ok k p =
       let y = some_holds (entry_with key x.entries) (λ y. fact (types.is_same ty y.ty)) h in ok.names key y.0 y.1.0 k p
   stored_root (tree.Captured closure part name) x id ty by e h around S ok k p =
@@ -386,51 +261,7 @@ module _ {V : Type 0} (items : ItemTable) (needs : ℕ → Bool) (q : Effects V)
       absurd (nodes.no_whole items needs q clear keeps fuel (ToElement (number_of index)) ((shape items base).place around.aliases) k p)
   stored_root (tree.Deref base) x id ty by e h around S ok k p =
       absurd (nodes.no_whole items needs q clear keeps fuel ToContent ((shape items base).place around.aliases) k p)
-  stored_root (tree.Not operand) x id ty by e h around S ok k p = absurd (false≢true e)
-  stored_root (tree.Negate operand) x id ty by e h around S ok k p = absurd (false≢true e)
-  stored_root (tree.Arithmetic operator left right) x id ty by e h around S ok k p = absurd (false≢true e)
-  stored_root (tree.Comparison operator left right) x id ty by e h around S ok k p = absurd (false≢true e)
-  stored_root (tree.And left right) x id ty by e h around S ok k p = absurd (false≢true e)
-  stored_root (tree.Or left right) x id ty by e h around S ok k p = absurd (false≢true e)
-  stored_root (tree.Assign target value) x id ty by e h around S ok k p = absurd (false≢true e)
-  stored_root (tree.Call body args) x id ty by e h around S ok k p = absurd (false≢true e)
-  stored_root (tree.MethodCall body receiver args) x id ty by e h around S ok k p = absurd (false≢true e)
-  stored_root (tree.VirtualCall trait_no method receiver args) x id ty by e h around S ok k p = absurd (false≢true e)
-  stored_root (tree.ClosureCall body callee args) x id ty by e h around S ok k p = absurd (false≢true e)
-  stored_root (tree.Make adt variant fields) x id ty by e h around S ok k p = absurd (false≢true e)
-  stored_root (tree.Tuple parts) x id ty by e h around S ok k p = absurd (false≢true e)
-  stored_root (tree.Array elements) x id ty by e h around S ok k p = absurd (false≢true e)
-  stored_root (tree.Closure closure captures) x id ty by e h around S ok k p = absurd (false≢true e)
-  stored_root (tree.NewBox content) x id ty by e h around S ok k p = absurd (false≢true e)
-  stored_root (tree.Print operand) x id ty by e h around S ok k p = absurd (false≢true e)
-  stored_root tree.Ask x id ty by e h around S ok k p = absurd (false≢true e)
-  stored_root (tree.DropValue operand) x id ty by e h around S ok k p = absurd (false≢true e)
-  stored_root (tree.Forget operand) x id ty by e h around S ok k p = absurd (false≢true e)
-  stored_root tree.Panic x id ty by e h around S ok k p = absurd (false≢true e)
-  stored_root (tree.Borrow unique base) x id ty by e h around S ok k p = absurd (false≢true e)
-  stored_root (tree.Unsize trait_no operand) x id ty by e h around S ok k p = absurd (false≢true e)
-  stored_root (tree.Block statements tail) x id ty by e h around S ok k p = absurd (false≢true e)
-  stored_root (tree.Let pattern initialiser) x id ty by e h around S ok k p = absurd (false≢true e)
-  stored_root (tree.Evaluate expression) x id ty by e h around S ok k p = absurd (false≢true e)
-  stored_root (tree.If condition consequent otherwise) x id ty by e h around S ok k p = absurd (false≢true e)
-  stored_root (tree.IfLet pattern scrutinee consequent otherwise) x id ty by e h around S ok k p = absurd (false≢true e)
-  stored_root (tree.Match scrutinee arms) x id ty by e h around S ok k p = absurd (false≢true e)
-  stored_root (tree.Arm pattern guard body) x id ty by e h around S ok k p = absurd (false≢true e)
-  stored_root (tree.Loop body) x id ty by e h around S ok k p = absurd (false≢true e)
-  stored_root (tree.While condition body) x id ty by e h around S ok k p = absurd (false≢true e)
-  stored_root (tree.WhileLet pattern scrutinee body) x id ty by e h around S ok k p = absurd (false≢true e)
-  stored_root (tree.Break loop value) x id ty by e h around S ok k p = absurd (false≢true e)
-  stored_root (tree.Continue loop) x id ty by e h around S ok k p = absurd (false≢true e)
-  stored_root (tree.Return value) x id ty by e h around S ok k p = absurd (false≢true e)
-  stored_root tree.Wildcard x id ty by e h around S ok k p = absurd (false≢true e)
-  stored_root (tree.Binding name) x id ty by e h around S ok k p = absurd (false≢true e)
-  stored_root (tree.NumberPattern value) x id ty by e h around S ok k p = absurd (false≢true e)
-  stored_root (tree.TruthPattern value) x id ty by e h around S ok k p = absurd (false≢true e)
-  stored_root (tree.StructPattern fields) x id ty by e h around S ok k p = absurd (false≢true e)
-  stored_root (tree.VariantPattern variant is_test fields) x id ty by e h around S ok k p = absurd (false≢true e)
-  stored_root (tree.TuplePattern parts) x id ty by e h around S ok k p = absurd (false≢true e)
-  stored_root (tree.ArrayPattern elements) x id ty by e h around S ok k p = absurd (false≢true e)
-  stored_root (tree.OrPattern alternatives) x id ty by e h around S ok k p = absurd (false≢true e)
+  stored_root other x id ty by e h around S ok k p = absurd (false≢true e)
 
   -- the place that is assigned
   pub stored_names : (place : Node) (x : Standpoint) → Holds (typing.typed (K x) Stored place) → (around : LoopsAndGuards)

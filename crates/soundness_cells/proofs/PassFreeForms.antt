@@ -1,26 +1,24 @@
 -- What is free stays free: each node of a well typed body keeps it so, by one line a form.
-use Rattle.std.proofs.Common.{◌≡◌, ◌⊎◌, inl, inr, ℕ, ◌==◌, ◌&&◌, not, Bool, if◌then◌else◌, true, false, List, [], ◌∷◌, ◌++◌, length, Option, Some, None, slice_get, refl, ap, sym, ◌∙◌, subst}
+use Rattle.std.proofs.Common.{◌≡◌, inl, inr, ℕ, ◌==◌, ◌&&◌, not, Bool, if◌then◌else◌, true, false, List, [], ◌∷◌, ◌++◌, length, Option, Some, slice_get, refl, subst}
 use Rattle.std.proofs.lemmas.Bool.{false≢true}
-use Rattle.std.proofs.lemmas.Bool.Decides.{Decides-eqb}
 use Rattle.std.proofs.lemmas.Option.{none-some}
 use Rattle.mir_base.specs.declared.place_in_text.Pos.{Pos}
 use Rattle.mir_base.specs.declared.trace.Why.{Why}
 use Rattle.mir_ty.specs.declared.ty.TyId.{TyId}
-use Rattle.mir_ty.specs.Facts.{needs_drop}
 use Rattle.mir_ty.specs.ItemTable.{ItemTable}
 use Rattle.store_model.specs.Effects as effects
-use Rattle.store_model.specs.Effects.{EffectSite, Operand, Action, Halt, OfTuple, OfArray, OfVariant, OfClosure, Effects, stored_by}
+use Rattle.store_model.specs.Effects.{EffectSite, Halt, OfTuple, OfArray, OfVariant, OfClosure, Effects}
 use Rattle.store_model.specs.Places.Place.{Place, whole_local}
 use Rattle.typed_tree.specs.declared.node.Use.{Use}
-use Rattle.typed_tree.specs.Nodes.{number_of, nodes_of, nodes_in, nodes_among, nodes_of_fields, nodes_if_any}
+use Rattle.typed_tree.specs.Nodes.{nodes_of, nodes_in, nodes_among, nodes_of_fields, nodes_if_any}
 use Rattle.typed_tree.specs.Tree as tree
 use Rattle.typed_tree.specs.Tree.{Node, node, Form, Nodes, no_node, a_node, Fields, no_field, a_field, MaybeNode, absent, present}
 use Rattle.src_meaning.specs.Evaluation as evaluation
-use Rattle.src_meaning.specs.Evaluation.{meaning, meaning_of, meanings, fields_of, meaning_if_any, values_of, in_number_order, to_own_key}
+use Rattle.src_meaning.specs.Evaluation.{meaning, meaning_of, meanings, fields_of, meaning_if_any, values_of, in_number_order}
 use Rattle.src_meaning.specs.Forms as forms
-use Rattle.src_meaning.specs.Forms.{Destination, Into, Coerced, coerced, LoopsAndGuards, Meaning, in_loop, loop_destination, moved, all_moved, is_never, place_of, site_of}
-use Rattle.src_meaning.specs.Scopes.{Scopes, with_scope, Exit, Value, Breaks, Continues, Returns, Panics, Run, At, Does, on_value}
-use Rattle.src_meaning.specs.Shape.{NodeHead, head, Shape, BoundName, shape, shape_of, kind_of}
+use Rattle.src_meaning.specs.Forms.{Destination, Into, LoopsAndGuards, Meaning, loop_destination, all_moved, place_of}
+use Rattle.src_meaning.specs.Scopes.{Scopes, with_scope, Exit, Value, Breaks, Continues, Returns, At, on_value}
+use Rattle.src_meaning.specs.Shape.{head, shape_of, kind_of}
 use Rattle.well_typed.specs.Claim.{Claim, Holds, fact, both, some}
 use Rattle.well_typed.specs.Names.{are_distinct_numbers}
 use Rattle.well_typed.specs.Nodes as typing
@@ -28,42 +26,31 @@ use Rattle.well_typed.specs.Patterns as pattern_rules
 use Rattle.well_typed.specs.Patterns.{Matched}
 use Rattle.well_typed.specs.Places.{LoopAround, Context, loop_with, ty_of, Standing, Taken, Wanted, Passed, Base, Used, Stored, borrow_by, in_guard}
 use Rattle.well_typed.specs.Types as types
-use Rattle.soundness_values.proofs.Leaving.{Shown, ShownOut, shown_more, Among}
-use Rattle.soundness_cells.proofs.PassAround as named
-use Rattle.soundness_cells.proofs.PassCells.{rising}
-use Rattle.soundness_cells.proofs.PassClear.{KeepsClear, any, Nothing, StoredAt}
+use Rattle.soundness_values.proofs.Leaving.{Shown}
+use Rattle.soundness_cells.proofs.PassClear.{KeepsClear, Nothing}
 use Rattle.soundness_cells.proofs.PassFacts as facts
 use Rattle.soundness_cells.proofs.PassFacts.{Standpoint, context, with_names, in_a_loop, behind}
-use Rattle.soundness_cells.proofs.PassFree.{Always, FindsNothing, DestKey, Ext, Top, Deep, ext_same, ext_then, top_then, AroundOk, around_ext, around_top}
-use Rattle.soundness_cells.proofs.PassForms.{node_so}
+use Rattle.soundness_cells.proofs.PassFree.{FindsNothing, DestKey, Top, ext_same, top_then, AroundOk}
 use Rattle.soundness_cells.proofs.PassFreeAgain as again
 use Rattle.soundness_cells.proofs.PassFreeArms as arms
-use Rattle.soundness_cells.proofs.PassFreeChoices as choices
-use Rattle.soundness_cells.proofs.PassFreeChoices.{TestsKey, BoundKey, DistinctNames}
+use Rattle.soundness_cells.proofs.PassFreeChoices.{BoundKey}
 use Rattle.soundness_cells.proofs.PassFreeKinds as kinds
 use Rattle.soundness_cells.proofs.PassFreeLoops as loops
 use Rattle.soundness_cells.proofs.PassFreeOperands as operands
-use Rattle.soundness_cells.proofs.PassFreePatterns.{NamesOf, names_of_node, names_in, names_distinct, tests_of_node, single_name}
 use Rattle.soundness_cells.proofs.PassFreeRules as rules
 use Rattle.soundness_cells.proofs.PassFreeStatements as statements
 use Rattle.soundness_cells.proofs.PassFreeTurns as turns
-use Rattle.soundness_values.proofs.PassHeads.{type_is, number_is, shape_is}
 use Rattle.soundness_cells.proofs.PassNodes as nodes
-use Rattle.soundness_cells.proofs.PassNumbers.{Numbered, numbered_left, numbered_right, Rises, first_apart, rises_left, rises_right, rises_apart, own_number}
+use Rattle.soundness_cells.proofs.PassNumbers.{Numbered, numbered_left, numbered_right, Rises, rises_left, rises_right, rises_apart}
 use Rattle.soundness_cells.proofs.PassParts as parts
-use Rattle.soundness_cells.proofs.PassPatterns as patterns
-use Rattle.soundness_cells.proofs.PassScopes.{entries_of}
-use Rattle.soundness_cells.proofs.PassSteps as steps
-use Rattle.soundness_cells.proofs.PassBranches as branches
-use Rattle.soundness_values.proofs.PlaceTypes.{some_holds, same_type}
+use Rattle.soundness_values.proofs.PlaceTypes.{some_holds}
+use Rattle.soundness_cells.proofs.PassFreeOperators.{Post, good_left, good_right, inside_rises, first_of, not_free, negate_free, arithmetic_free, comparison_free, new_box_free, print_free, forget_free, drop_value_free, unsize_free, field_free, deref_free, index_free, assign_free, borrow_free}
+use Rattle.soundness_cells.proofs.PassFreeBranching.{and_free, or_free, if_free, if_else_free, if_let_free, if_let_else_free}
+use Rattle.soundness_cells.proofs.PassFreeWhile.{loop_free, while_free, while_let_free}
 
 module _ {V : Type 0} (items : ItemTable) (needs : ℕ → Bool) (q : Effects V) (clear : V → ℕ → Type 0)
     (keeps : KeepsClear q needs clear) (over : Halt → V → Type 0) (waits : EffectSite → V → Type 0)
     (first : FindsNothing q over needs clear waits) (fuel : ℕ) where
-  abbrev Post : LoopsAndGuards → (ℕ → Type 0) → List Node → Scopes → V → (Exit → Scopes → Type 0) → Exit → Scopes →
-      V → Type 0
-  Post = rules.Post items needs q clear keeps over waits first
-
   abbrev Extends : Scopes → Exit → Scopes → Type 0
   Extends = rules.Extends items needs q clear keeps over waits first
 
@@ -85,9 +72,6 @@ module _ {V : Type 0} (items : ItemTable) (needs : ℕ → Bool) (q : Effects V)
   abbrev AllFree : Context → List (Meaning V) → List Node → Type 0
   AllFree = operands.AllFree items needs q clear keeps over waits first
 
-  abbrev ToSite : (EffectSite → Action) → Type 0
-  ToSite = rules.ToSite items needs q clear keeps over waits first
-
   abbrev Good : List Node → Type 0
   Good = nodes.Good items needs q clear keeps fuel
 
@@ -105,105 +89,6 @@ module _ {V : Type 0} (items : ItemTable) (needs : ℕ → Bool) (q : Effects V)
 
   abbrev Of : Form → ℕ → TyId → Option Use → Meaning V
   Of form id ty by = meaning_of items q fuel form (head id ty by) (shape_of items form (head id ty by))
-
-  -- a type that needs no dropping
-  good_own : (n : Node) → Good (nodes_of n) → needs_drop items (ty_of n) ≡ false → needs (number_of n) ≡ false
-  good_own (node id at ty by form) g e = g.0 e
-
-  assigned : (target value : Node) (x : Standpoint) → Holds (typing.typed (K x) (Wanted (ty_of target)) value) →
-      Good (nodes_of value) → needs_drop items (M target).head.ty ≡ false → needs (M value).head.id ≡ false
-  assigned target value x h g e = ap needs (number_is items q fuel value) ∙ good_own value g
-      (by (nodes.either items needs q clear keeps fuel (types.is_same (ty_of value) (ty_of target))
-      (types.is_never items (ty_of value))
-      (facts.wanted_fits items needs q clear keeps fuel (K x) (ty_of target) value h)))
-    where
-      by : (types.is_same (ty_of value) (ty_of target) ≡ true) ⊎ (types.is_never items (ty_of value) ≡ true) →
-          needs_drop items (ty_of value) ≡ false
-      by (inl same) = ap (needs_drop items) (same_type (ty_of value) (ty_of target) same)
-          ∙ sym (ap (needs_drop items) (type_is items q fuel target)) ∙ e
-      by (inr n) = nodes.never_none items needs q clear keeps fuel (ty_of value) n
-
-  good_left : (a b : List Node) → Good (a ++ b) → Good a
-  good_left = nodes.good_left items needs q clear keeps fuel
-
-  good_right : (a b : List Node) → Good (a ++ b) → Good b
-  good_right = nodes.good_right items needs q clear keeps fuel
-
-  inside_rises : (n : Node) (os : List Node) → Rises (n ∷ os) → Rises os
-  inside_rises n os r = (rising n os r).1
-
-  abbrev unit_action : EffectSite → Action
-  unit_action site = effects.Put site effects.UnitValue
-
-  first_of : (tys : List TyId) (receiver : Node) (ns : Nodes) (x : Standpoint) →
-      Holds (typing.first_and_rest (λ t. typing.typed (K x) (Passed t) receiver) (λ ts. typing.arguments (K x) ts ns)
-      tys) →
-      ((ty : TyId) → Holds (typing.typed (K x) (Passed ty) receiver) → FreeM (K x) (M receiver) (nodes_of receiver)) →
-      ((tys : List TyId) → Holds (typing.arguments (K x) tys ns) → AllFree (K x) (Ms ns) (nodes_among ns)) →
-      AllFree (K x) (M receiver ∷ Ms ns) (nodes_of receiver ++ nodes_among ns)
-  first_of [] receiver ns x h f g = absurd (false≢true h)
-  first_of (ty ∷ tys) receiver ns x h f g =
-      (nodes_of receiver, (nodes_among ns, (refl, (f ty h.0, g tys h.1))))
-
-  coerced_free : (c : Context) (around : LoopsAndGuards) (m : Meaning V) (trait_no id : ℕ) (os ns : List Node) →
-      FreeM c m os → Part id os ns → (own : Bool) (to : Destination) (S : Scopes) (v : V) → Ready c around ns S v →
-      DestOk id ns to S v → Shown over (Post around (DestKey to) ns S v (Extends S))
-      (m.evaluate around own (coerced m.head.id trait_no to) S v)
-  coerced_free c around m trait_no id os ns f p own (Into t) S v r d = into t t (λ z e. e) r d
-    where
-      into : (t u : ℕ) → ((z : ℕ) → u ≡ z → DestKey (Into t) z) → Ready c around ns S v → DestOk id ns (Into t) S v →
-          Shown over (Post around (DestKey (Into t)) ns S v (Extends S))
-          (m.evaluate around own (Coerced m.head.id trait_no u) S v)
-      into t u f_z r d = let ready = rules.ready_part items needs q clear keeps over waits first c around os ns S v
-          p.within r in
-          rules.more_free items needs q clear keeps over waits first around (DestKey (Coerced m.head.id trait_no u))
-          (DestKey (Into t)) os ns S v (Extends S)
-          (Extends S) (m.evaluate around own (Coerced m.head.id trait_no u) S v)
-          (f.evaluates around own (Coerced m.head.id trait_no u) S v ready (record {
-            free = λ z k. free z k;
-            apart = λ z k. apart z k;
-            two = λ e. rules.dest_apart items needs q clear keeps over waits first id os ns (Into t) S v d p u (f_z u
-                refl) (subst (Numbered os) e f.own);
-          })) p.within (λ z k. filled z k) (λ exit T e. e)
-        where
-          free : (z : ℕ) → (m.head.id ≡ z) ⊎ (u ≡ z) → rules.Free items needs q clear keeps over waits first v S z
-          free z (inl e) = subst (rules.Free items needs q clear keeps over waits first v S) e (r.free m.head.id
-              (p.within m.head.id f.own))
-          free z (inr e) = d.free z (f_z z e)
-
-          apart : (z : ℕ) → (m.head.id ≡ z) ⊎ (u ≡ z) → (m.head.id ≡ z) ⊎ (Numbered os z → ⊥)
-          apart z (inl e) = inl e
-          apart z (inr e) = inr (λ n. rules.dest_apart items needs q clear keeps over waits first id os ns (Into t) S v
-              d p z (f_z z e) n)
-
-          filled : (z : ℕ) → (m.head.id ≡ z) ⊎ (u ≡ z) → Numbered ns z ⊎ DestKey (Into t) z
-          filled z (inl e) = inl (p.within z (subst (Numbered os) e f.own))
-          filled z (inr e) = inr (f_z z e)
-  coerced_free c around m trait_no id os ns f p own (Coerced key other t) S v r d =
-      let ready = rules.ready_part items needs q clear keeps over waits first c around os ns S v p.within r in
-      rules.more_free items needs q clear keeps over waits first around (DestKey (Coerced m.head.id trait_no t))
-      (DestKey (Coerced key other t)) os ns S v (Extends S)
-      (Extends S) (m.evaluate around own (Coerced m.head.id trait_no t) S v)
-      (f.evaluates around own (Coerced m.head.id trait_no t) S v ready (record {
-        free = λ z k. free z k;
-        apart = λ z k. apart z k;
-        two = λ e. rules.dest_apart items needs q clear keeps over waits first id os ns (Coerced key other t) S v d p t
-            (inr refl) (subst (Numbered os) e f.own);
-      })) p.within (λ z k. filled z k) (λ exit T e. e)
-    where
-      free : (z : ℕ) → (m.head.id ≡ z) ⊎ (t ≡ z) → rules.Free items needs q clear keeps over waits first v S z
-      free z (inl e) = subst (rules.Free items needs q clear keeps over waits first v S) e (r.free m.head.id (p.within
-          m.head.id f.own))
-      free z (inr e) = d.free z (inr e)
-
-      apart : (z : ℕ) → (m.head.id ≡ z) ⊎ (t ≡ z) → (m.head.id ≡ z) ⊎ (Numbered os z → ⊥)
-      apart z (inl e) = inl e
-      apart z (inr e) = inr (λ n. rules.dest_apart items needs q clear keeps over waits first id os ns (Coerced key
-          other t) S v d p z (inr e) n)
-
-      filled : (z : ℕ) → (m.head.id ≡ z) ⊎ (t ≡ z) → Numbered ns z ⊎ DestKey (Coerced key other t) z
-      filled z (inl e) = inl (p.within z (subst (Numbered os) e f.own))
-      filled z (inr e) = inr (inr e)
 
   -- ---- the forms
 
@@ -243,170 +128,53 @@ module _ {V : Type 0} (items : ItemTable) (needs : ℕ → Bool) (q : Effects V)
         (λ around. At Value) [] ((node id at ty by (tree.Captured closure part name)) ∷ []) (inl refl) (kinds.part_of
         items needs q clear keeps over waits first fuel (node id at ty by (tree.Captured closure part name)) ([])
         r) (λ around S v t. (ext_same S, λ z fr n m. fr))
-    form_free (tree.Field base part) x id at ty by h g r = kinds.place_free items needs q clear keeps over waits first
-        fuel (K x) (head id ty by) (shape_of items (tree.Field base part) (head id ty by))
-        (M base).reach (nodes_of base) ((node id at ty by (tree.Field base part)) ∷ nodes_of base) (inl refl)
-        (kinds.part_of items needs q clear keeps over waits first fuel (node id at ty by (tree.Field base part))
-        (nodes_of base) r)
-        (node_free base x Base h.0 g (inside_rises (node id at ty by (tree.Field base part)) (nodes_of base) r)).reaches
-    form_free (tree.Deref base) x id at ty by h g r = kinds.place_free items needs q clear keeps over waits first fuel
-        (K x) (head id ty by) (shape_of items (tree.Deref base) (head id ty by))
-        (M base).reach (nodes_of base) ((node id at ty by (tree.Deref base)) ∷ nodes_of base) (inl refl) (kinds.part_of
-        items needs q clear keeps over waits first fuel (node id at ty by (tree.Deref base)) (nodes_of base) r)
-        (node_free base x Base h.0 g (inside_rises (node id at ty by (tree.Deref base)) (nodes_of base) r)).reaches
-    form_free (tree.Index base index length) x id at ty by h g r = let rs = inside_rises (node id at ty by (tree.Index
-        base index length)) (nodes_of base ++ nodes_of index) r in
-        kinds.place_free items needs q clear keeps over waits first fuel (K x) (head id ty by) (shape_of items
-        (tree.Index base index length) (head id ty by))
-        (forms.reach_element items q (head id ty by) (shape_of items (tree.Index base index length) (head id ty by)) (M
-        base) (M index) length)
-        (nodes_of base ++ nodes_of index) ((node id at ty by (tree.Index base index length)) ∷ nodes_of base ++
-        nodes_of index) (inl refl)
-        (kinds.part_of items needs q clear keeps over waits first fuel (node id at ty by (tree.Index base index
-        length)) (nodes_of base ++ nodes_of index) r)
-        (λ around S v t. operands.element_free items needs q clear keeps over waits first (K x) around (head id ty by)
-        (shape_of items (tree.Index base index length) (head id ty by)) (M base) (M index) length
-        (nodes_of base) (nodes_of index) (nodes_of base ++ nodes_of index) rs
-        (node_free base x Base h.0 (good_left (nodes_of base) (nodes_of index) g) (rises_left (nodes_of base) (nodes_of
-        index) rs))
-        (node_free index x Taken h.1.0 (good_right (nodes_of base) (nodes_of index) g) (rises_right (nodes_of base)
-        (nodes_of index) rs))
-        (λ z k. k) S v t)
-    form_free (tree.Not operand) x id at ty by h g r = kinds.operands_value items needs q clear keeps over waits first
-        fuel (K x) (head id ty by) (shape_of items (tree.Not operand) (head id ty by))
-        (M operand ∷ [])
-        (λ site. effects.Not site (moved id (M operand).head.id))
-        (nodes_of operand) ((node id at ty by (tree.Not operand)) ∷ nodes_of operand) (inl refl)
-        (kinds.part_of items needs q clear keeps over waits first fuel (node id at ty by (tree.Not operand)) (nodes_of
-        operand) r)
-        (inside_rises (node id at ty by (tree.Not operand)) (nodes_of operand) r)
-        (kinds.one_free items needs q clear keeps over waits first fuel (K x) (M operand) (nodes_of operand)
-        (node_free operand x Taken h.0 g (inside_rises (node id at ty by (tree.Not operand)) (nodes_of operand) r))) (λ
-        site key e. e)
-    form_free (tree.Negate operand) x id at ty by h g r = kinds.operands_value items needs q clear keeps over waits
-        first fuel (K x) (head id ty by) (shape_of items (tree.Negate operand) (head id ty by))
-        (M operand ∷ [])
-        (λ site. effects.Negate site (moved id (M operand).head.id))
-        (nodes_of operand) ((node id at ty by (tree.Negate operand)) ∷ nodes_of operand) (inl refl)
-        (kinds.part_of items needs q clear keeps over waits first fuel (node id at ty by (tree.Negate operand))
-        (nodes_of operand) r)
-        (inside_rises (node id at ty by (tree.Negate operand)) (nodes_of operand) r)
-        (kinds.one_free items needs q clear keeps over waits first fuel (K x) (M operand) (nodes_of operand)
-        (node_free operand x Taken h.0 g (inside_rises (node id at ty by (tree.Negate operand)) (nodes_of operand) r)))
-        (λ site key e. e)
-    form_free (tree.Arithmetic operator left right) x id at ty by h g r = kinds.operands_value items needs q clear
-        keeps over waits first fuel (K x) (head id ty by) (shape_of items (tree.Arithmetic operator left right) (head
-        id ty by))
-        (M left ∷ M right ∷ [])
-        (λ site. effects.Compute site operator (moved id (M left).head.id) (moved id (M right).head.id))
-        (nodes_of left ++ nodes_of right) ((node id at ty by (tree.Arithmetic operator left right)) ∷ nodes_of left ++
-        nodes_of right) (inl refl)
-        (kinds.part_of items needs q clear keeps over waits first fuel (node id at ty by (tree.Arithmetic operator left
-        right)) (nodes_of left ++ nodes_of right) r)
-        (inside_rises (node id at ty by (tree.Arithmetic operator left right)) (nodes_of left ++ nodes_of right) r)
-        (kinds.two_free items needs q clear keeps over waits first fuel (K x) (M left) (M right) (nodes_of left)
-        (nodes_of right)
-        (node_free left x (Wanted ty) h.0 (good_left (nodes_of left) (nodes_of right) g)
-        (rises_left (nodes_of left) (nodes_of right) (inside_rises (node id at ty by (tree.Arithmetic operator left
-        right)) (nodes_of left ++ nodes_of right) r)))
-        (node_free right x (Wanted ty) h.1.0 (good_right (nodes_of left) (nodes_of right) g)
-        (rises_right (nodes_of left) (nodes_of right) (inside_rises (node id at ty by (tree.Arithmetic operator left
-        right)) (nodes_of left ++ nodes_of right) r)))) (λ site key e. e)
-    form_free (tree.Comparison operator left right) x id at ty by h g r = kinds.operands_value items needs q clear
-        keeps over waits first fuel (K x) (head id ty by) (shape_of items (tree.Comparison operator left right) (head
-        id ty by))
-        (M left ∷ M right ∷ [])
-        (λ site. effects.Compare site operator (moved id (M left).head.id) (moved id (M right).head.id))
-        (nodes_of left ++ nodes_of right) ((node id at ty by (tree.Comparison operator left right)) ∷ nodes_of left ++
-        nodes_of right) (inl refl)
-        (kinds.part_of items needs q clear keeps over waits first fuel (node id at ty by (tree.Comparison operator left
-        right)) (nodes_of left ++ nodes_of right) r)
-        (inside_rises (node id at ty by (tree.Comparison operator left right)) (nodes_of left ++ nodes_of right) r)
-        (kinds.two_free items needs q clear keeps over waits first fuel (K x) (M left) (M right) (nodes_of left)
-        (nodes_of right)
-        (node_free left x Taken h.0 (good_left (nodes_of left) (nodes_of right) g)
-        (rises_left (nodes_of left) (nodes_of right) (inside_rises (node id at ty by (tree.Comparison operator left
-        right)) (nodes_of left ++ nodes_of right) r)))
-        (node_free right x Taken h.1.0 (good_right (nodes_of left) (nodes_of right) g)
-        (rises_right (nodes_of left) (nodes_of right) (inside_rises (node id at ty by (tree.Comparison operator left
-        right)) (nodes_of left ++ nodes_of right) r)))) (λ site key e. e)
-    form_free (tree.And left right) x id at ty by h g r = let rs = inside_rises (node id at ty by (tree.And left
-        right)) (nodes_of left ++ nodes_of right) r in
-        let p = (kinds.part_of items needs q clear keeps over waits first fuel (node id at ty by (tree.And left right))
-        (nodes_of left ++ nodes_of right) r) in
-        let pl = kinds.part_left items needs q clear keeps over waits first fuel id (nodes_of left) (nodes_of right)
-        ((node id at ty by (tree.And left right)) ∷ nodes_of left ++ nodes_of right) p in
-        let pr = kinds.part_right items needs q clear keeps over waits first fuel id (nodes_of left) (nodes_of right)
-        ((node id at ty by (tree.And left right)) ∷ nodes_of left ++ nodes_of right) p in
-        let fl = node_free left x Taken h.0 (good_left (nodes_of left) (nodes_of right) g)
-        (rises_left (nodes_of left) (nodes_of right) rs) in
-        let fr = node_free right x Taken h.1.0 (good_right (nodes_of left) (nodes_of right) g)
-        (rises_right (nodes_of left) (nodes_of right) rs) in
-        kinds.scope_free items needs q clear keeps over waits first fuel (K x) (head id ty by) (shape_of items
-        (tree.And left right) (head id ty by)) ((node id at ty by (tree.And left right)) ∷ nodes_of left ++
-        nodes_of right)
-        (evaluation.conjunction items q fuel (head id ty by) (M left) (M right)) (inl refl)
-        (λ around to S v t d. choices.condition_free items needs q clear keeps over waits first (K x) around (M left)
-        (forms.alone items q around (M right) to) (evaluation.shortcut items q fuel (head id ty by) false to)
-        (DestKey to) (nodes_of left)
-        ((node id at ty by (tree.And left right)) ∷ nodes_of left ++ nodes_of right) fl pl.within S v (rules.ready_part
-        items needs q clear keeps over waits first (K x) around (nodes_of left) ((node id at ty by (tree.And left
-        right)) ∷ nodes_of left ++ nodes_of right) S v pl.within t)
-        (λ T w e j. kinds.branch_free items needs q clear keeps over waits first fuel (K x) around (M right) to id
-        (nodes_of left) (nodes_of right)
-        ((node id at ty by (tree.And left right)) ∷ nodes_of left ++ nodes_of right) fr pl pr (rises_apart (nodes_of
-        left) (nodes_of right) rs) S v t d T w e j)
-        (λ T w e j. kinds.gives_free items needs q clear keeps over waits first fuel around (head id ty by) (λ site.
-        effects.Put site (effects.Truth false)) to
-        (nodes_of left) ((node id at ty by (tree.And left right)) ∷ nodes_of left ++ nodes_of right) pl (λ site key e.
-        e) S v d T w e j))
-    form_free (tree.Or left right) x id at ty by h g r = let rs = inside_rises (node id at ty by (tree.Or left right))
-        (nodes_of left ++ nodes_of right) r in
-        let p = (kinds.part_of items needs q clear keeps over waits first fuel (node id at ty by (tree.Or left right))
-        (nodes_of left ++ nodes_of right) r) in
-        let pl = kinds.part_left items needs q clear keeps over waits first fuel id (nodes_of left) (nodes_of right)
-        ((node id at ty by (tree.Or left right)) ∷ nodes_of left ++ nodes_of right) p in
-        let pr = kinds.part_right items needs q clear keeps over waits first fuel id (nodes_of left) (nodes_of right)
-        ((node id at ty by (tree.Or left right)) ∷ nodes_of left ++ nodes_of right) p in
-        let fl = node_free left x Taken h.0 (good_left (nodes_of left) (nodes_of right) g)
-        (rises_left (nodes_of left) (nodes_of right) rs) in
-        let fr = node_free right x Taken h.1.0 (good_right (nodes_of left) (nodes_of right) g)
-        (rises_right (nodes_of left) (nodes_of right) rs) in
-        kinds.scope_free items needs q clear keeps over waits first fuel (K x) (head id ty by) (shape_of items (tree.Or
-        left right) (head id ty by)) ((node id at ty by (tree.Or left right)) ∷ nodes_of left ++ nodes_of right)
-        (evaluation.disjunction items q fuel (head id ty by) (M left) (M right)) (inl refl)
-        (λ around to S v t d. choices.condition_free items needs q clear keeps over waits first (K x) around (M left)
-        (evaluation.shortcut items q fuel (head id ty by) true to) (forms.alone items q around (M right) to)
-        (DestKey to) (nodes_of left)
-        ((node id at ty by (tree.Or left right)) ∷ nodes_of left ++ nodes_of right) fl pl.within S v (rules.ready_part
-        items needs q clear keeps over waits first (K x) around (nodes_of left) ((node id at ty by (tree.Or left
-        right)) ∷ nodes_of left ++ nodes_of right) S v pl.within t)
-        (λ T w e j. kinds.gives_free items needs q clear keeps over waits first fuel around (head id ty by) (λ site.
-        effects.Put site (effects.Truth true)) to
-        (nodes_of left) ((node id at ty by (tree.Or left right)) ∷ nodes_of left ++ nodes_of right) pl (λ site key e.
-        e) S v d T w e j)
-        (λ T w e j. kinds.branch_free items needs q clear keeps over waits first fuel (K x) around (M right) to id
-        (nodes_of left) (nodes_of right)
-        ((node id at ty by (tree.Or left right)) ∷ nodes_of left ++ nodes_of right) fr pl pr (rises_apart (nodes_of
-        left) (nodes_of right) rs) S v t d T w e j))
-    form_free (tree.Assign target value) x id at ty by h g r = let rs = inside_rises (node id at ty by (tree.Assign
-        target value)) (nodes_of target ++ nodes_of value) r in
-        kinds.value_free items needs q clear keeps over waits first fuel (K x) (head id ty by) (shape_of items
-        (tree.Assign target value) (head id ty by)) ((node id at ty by (tree.Assign target value)) ∷ nodes_of
-        target ++ nodes_of value)
-        (forms.assigning items q (head id ty by) (M target) (M value)) (inl refl)
-        (λ around own to S v t d. operands.assigning_free items needs q clear keeps over waits first (K x) around own
-        (head id ty by) (M target) (M value) to
-        (nodes_of target) (nodes_of value) ((node id at ty by (tree.Assign target value)) ∷ nodes_of target ++ nodes_of
-        value) rs
-        (node_free target x Stored h.0 (good_left (nodes_of target) (nodes_of value) g)
-        (rises_left (nodes_of target) (nodes_of value) rs))
-        (node_free value x (Wanted (ty_of target)) h.1.1.0 (good_right (nodes_of target) (nodes_of value) g)
-        (rises_right (nodes_of target) (nodes_of value) rs)) (kinds.part_of items needs q clear keeps over waits first
-        fuel (node id at ty by (tree.Assign target value)) (nodes_of target ++ nodes_of value) r)
-        (assigned target value x h.1.1.0 (good_right (nodes_of target) (nodes_of value) g))
-        (λ T ok z e. facts.stored_names items (λ key. false) q (again.no_clear items needs q clear keeps)
-        (again.keeps_none items needs q clear keeps) fuel target x h.0 around T ok z e) S v t d)
+    form_free (tree.Field base part) x id at ty by h g r =
+        field_free items needs q clear keeps over waits first fuel x base part id at ty by h g r (node_free base x Base h.0 g (inside_rises items needs q clear keeps over waits first fuel (node id at ty by
+        (tree.Field base part)) (nodes_of base) r))
+    form_free (tree.Deref base) x id at ty by h g r =
+        deref_free items needs q clear keeps over waits first fuel x base id at ty by h g r (node_free base x Base h.0 g (inside_rises items needs q clear keeps over waits first fuel (node id at ty by (tree.Deref
+        base)) (nodes_of base) r))
+    form_free (tree.Index base index length) x id at ty by h g r =
+        let rs = inside_rises items needs q clear keeps over waits first fuel (node id at ty by (tree.Index base index length)) (nodes_of base ++ nodes_of index) r in
+        index_free items needs q clear keeps over waits first fuel x base index length id at ty by h g r (node_free base x Base h.0 (good_left items needs q clear keeps over waits first fuel (nodes_of base)
+        (nodes_of index) g) (rises_left (nodes_of base) (nodes_of index) rs)) (node_free index x Taken h.1.0
+        (good_right items needs q clear keeps over waits first fuel (nodes_of base) (nodes_of index) g) (rises_right (nodes_of base) (nodes_of index) rs))
+    form_free (tree.Not operand) x id at ty by h g r =
+        not_free items needs q clear keeps over waits first fuel x operand id at ty by h g r (node_free operand x Taken h.0 g (inside_rises items needs q clear keeps over waits first fuel (node id at ty by (tree.Not
+        operand)) (nodes_of operand) r))
+    form_free (tree.Negate operand) x id at ty by h g r =
+        negate_free items needs q clear keeps over waits first fuel x operand id at ty by h g r (node_free operand x Taken h.0 g (inside_rises items needs q clear keeps over waits first fuel (node id at ty by
+        (tree.Negate operand)) (nodes_of operand) r))
+    form_free (tree.Arithmetic operator left right) x id at ty by h g r =
+        arithmetic_free items needs q clear keeps over waits first fuel x operator left right id at ty by h g r (node_free left x (Wanted ty) h.0 (good_left items needs q clear keeps over waits first fuel (nodes_of
+        left) (nodes_of right) g) (rises_left (nodes_of left) (nodes_of right) (inside_rises items needs q clear keeps over waits first fuel (node id at ty by
+        (tree.Arithmetic operator left right)) (nodes_of left ++ nodes_of right) r))) (node_free right x (Wanted
+        ty) h.1.0 (good_right items needs q clear keeps over waits first fuel (nodes_of left) (nodes_of right) g) (rises_right (nodes_of left) (nodes_of right)
+        (inside_rises items needs q clear keeps over waits first fuel (node id at ty by (tree.Arithmetic operator left right)) (nodes_of left ++ nodes_of right)
+        r)))
+    form_free (tree.Comparison operator left right) x id at ty by h g r =
+        comparison_free items needs q clear keeps over waits first fuel x operator left right id at ty by h g r (node_free left x Taken h.0 (good_left items needs q clear keeps over waits first fuel (nodes_of left)
+        (nodes_of right) g) (rises_left (nodes_of left) (nodes_of right) (inside_rises items needs q clear keeps over waits first fuel (node id at ty by
+        (tree.Comparison operator left right)) (nodes_of left ++ nodes_of right) r))) (node_free right x Taken
+        h.1.0 (good_right items needs q clear keeps over waits first fuel (nodes_of left) (nodes_of right) g) (rises_right (nodes_of left) (nodes_of right)
+        (inside_rises items needs q clear keeps over waits first fuel (node id at ty by (tree.Comparison operator left right)) (nodes_of left ++ nodes_of right)
+        r)))
+    form_free (tree.And left right) x id at ty by h g r =
+        let rs = inside_rises items needs q clear keeps over waits first fuel (node id at ty by (tree.And left right)) (nodes_of left ++ nodes_of right) r in
+        and_free items needs q clear keeps over waits first fuel x left right id at ty by h g r (node_free left x Taken h.0 (good_left items needs q clear keeps over waits first fuel (nodes_of left) (nodes_of right)
+        g) (rises_left (nodes_of left) (nodes_of right) rs)) (node_free right x Taken h.1.0 (good_right items needs q clear keeps over waits first fuel (nodes_of
+        left) (nodes_of right) g) (rises_right (nodes_of left) (nodes_of right) rs))
+    form_free (tree.Or left right) x id at ty by h g r =
+        let rs = inside_rises items needs q clear keeps over waits first fuel (node id at ty by (tree.Or left right)) (nodes_of left ++ nodes_of right) r in
+        or_free items needs q clear keeps over waits first fuel x left right id at ty by h g r (node_free left x Taken h.0 (good_left items needs q clear keeps over waits first fuel (nodes_of left) (nodes_of right)
+        g) (rises_left (nodes_of left) (nodes_of right) rs)) (node_free right x Taken h.1.0 (good_right items needs q clear keeps over waits first fuel (nodes_of
+        left) (nodes_of right) g) (rises_right (nodes_of left) (nodes_of right) rs))
+    form_free (tree.Assign target value) x id at ty by h g r =
+        let rs = inside_rises items needs q clear keeps over waits first fuel (node id at ty by (tree.Assign target value)) (nodes_of target ++ nodes_of value) r in
+        assign_free items needs q clear keeps over waits first fuel x target value id at ty by h g r (node_free target x Stored h.0 (good_left items needs q clear keeps over waits first fuel (nodes_of target)
+        (nodes_of value) g) (rises_left (nodes_of target) (nodes_of value) rs)) (node_free value x (Wanted (ty_of
+        target)) h.1.1.0 (good_right items needs q clear keeps over waits first fuel (nodes_of target) (nodes_of value) g) (rises_right (nodes_of target) (nodes_of
+        value) rs))
     form_free (tree.Call body args) x id at ty by h g r = let t = some_holds (slice_get items.bodies body)
         (λ sig. both (fact (types.is_same ty sig.result)) (typing.arguments (K x) sig.params args)) h.0 in
         kinds.operands_value items needs q clear keeps over waits first fuel (K x) (head id ty by) (shape_of items
@@ -416,8 +184,8 @@ module _ {V : Type 0} (items : ItemTable) (needs : ℕ → Bool) (q : Effects V)
         (nodes_among args) ((node id at ty by (tree.Call body args)) ∷ nodes_among args) (inl refl)
         (kinds.part_of items needs q clear keeps over waits first fuel (node id at ty by (tree.Call body args))
         (nodes_among args) r)
-        (inside_rises (node id at ty by (tree.Call body args)) (nodes_among args) r)
-        (args_free t.0.params args x t.1.1.1 g (inside_rises (node id at ty by (tree.Call body args)) (nodes_among
+        (inside_rises items needs q clear keeps over waits first fuel (node id at ty by (tree.Call body args)) (nodes_among args) r)
+        (args_free t.0.params args x t.1.1.1 g (inside_rises items needs q clear keeps over waits first fuel (node id at ty by (tree.Call body args)) (nodes_among
         args) r)) (λ site key e. e)
     form_free (tree.MethodCall body receiver args) x id at ty by h g r = let t = some_holds (slice_get items.bodies
         body)
@@ -431,13 +199,13 @@ module _ {V : Type 0} (items : ItemTable) (needs : ℕ → Bool) (q : Effects V)
         receiver ++ nodes_among args) (inl refl)
         (kinds.part_of items needs q clear keeps over waits first fuel (node id at ty by (tree.MethodCall body receiver
         args)) (nodes_of receiver ++ nodes_among args) r)
-        (inside_rises (node id at ty by (tree.MethodCall body receiver args)) (nodes_of receiver ++ nodes_among args) r)
-        (first_of t.0.params receiver args x t.1.1.1
-        (λ t' j. node_free receiver x (Passed t') j (good_left (nodes_of receiver) (nodes_among args) g)
-        (rises_left (nodes_of receiver) (nodes_among args) (inside_rises (node id at ty by (tree.MethodCall body
+        (inside_rises items needs q clear keeps over waits first fuel (node id at ty by (tree.MethodCall body receiver args)) (nodes_of receiver ++ nodes_among args) r)
+        (first_of items needs q clear keeps over waits first fuel t.0.params receiver args x t.1.1.1
+        (λ t' j. node_free receiver x (Passed t') j (good_left items needs q clear keeps over waits first fuel (nodes_of receiver) (nodes_among args) g)
+        (rises_left (nodes_of receiver) (nodes_among args) (inside_rises items needs q clear keeps over waits first fuel (node id at ty by (tree.MethodCall body
         receiver args)) (nodes_of receiver ++ nodes_among args) r)))
-        (λ ts j. args_free ts args x j (good_right (nodes_of receiver) (nodes_among args) g)
-        (rises_right (nodes_of receiver) (nodes_among args) (inside_rises (node id at ty by (tree.MethodCall body
+        (λ ts j. args_free ts args x j (good_right items needs q clear keeps over waits first fuel (nodes_of receiver) (nodes_among args) g)
+        (rises_right (nodes_of receiver) (nodes_among args) (inside_rises items needs q clear keeps over waits first fuel (node id at ty by (tree.MethodCall body
         receiver args)) (nodes_of receiver ++ nodes_among args) r)))) (λ site key e. e)
     form_free (tree.VirtualCall trait_no method receiver args) x id at ty by h g r = let t = some_holds (slice_get
         items.traits trait_no) (λ def. some (slice_get def.methods method)
@@ -454,14 +222,14 @@ module _ {V : Type 0} (items : ItemTable) (needs : ℕ → Bool) (q : Effects V)
         nodes_of receiver ++ nodes_among args) (inl refl)
         (kinds.part_of items needs q clear keeps over waits first fuel (node id at ty by (tree.VirtualCall trait_no
         method receiver args)) (nodes_of receiver ++ nodes_among args) r)
-        (inside_rises (node id at ty by (tree.VirtualCall trait_no method receiver args)) (nodes_of receiver ++
+        (inside_rises items needs q clear keeps over waits first fuel (node id at ty by (tree.VirtualCall trait_no method receiver args)) (nodes_of receiver ++
         nodes_among args) r)
-        (first_of s.0.params receiver args x s.1.1.1
-        (λ t' j. node_free receiver x (Passed t') j (good_left (nodes_of receiver) (nodes_among args) g)
-        (rises_left (nodes_of receiver) (nodes_among args) (inside_rises (node id at ty by (tree.VirtualCall trait_no
+        (first_of items needs q clear keeps over waits first fuel s.0.params receiver args x s.1.1.1
+        (λ t' j. node_free receiver x (Passed t') j (good_left items needs q clear keeps over waits first fuel (nodes_of receiver) (nodes_among args) g)
+        (rises_left (nodes_of receiver) (nodes_among args) (inside_rises items needs q clear keeps over waits first fuel (node id at ty by (tree.VirtualCall trait_no
         method receiver args)) (nodes_of receiver ++ nodes_among args) r)))
-        (λ ts j. args_free ts args x j (good_right (nodes_of receiver) (nodes_among args) g)
-        (rises_right (nodes_of receiver) (nodes_among args) (inside_rises (node id at ty by (tree.VirtualCall trait_no
+        (λ ts j. args_free ts args x j (good_right items needs q clear keeps over waits first fuel (nodes_of receiver) (nodes_among args) g)
+        (rises_right (nodes_of receiver) (nodes_among args) (inside_rises items needs q clear keeps over waits first fuel (node id at ty by (tree.VirtualCall trait_no
         method receiver args)) (nodes_of receiver ++ nodes_among args) r)))) (λ site key e. e)
     form_free (tree.ClosureCall body callee args) x id at ty by h g r = let t = some_holds (slice_get items.bodies body)
         (λ sig. both (fact (types.is_same ty sig.result)) (typing.first_and_rest
@@ -474,13 +242,13 @@ module _ {V : Type 0} (items : ItemTable) (needs : ℕ → Bool) (q : Effects V)
         ++ nodes_among args) (inl refl)
         (kinds.part_of items needs q clear keeps over waits first fuel (node id at ty by (tree.ClosureCall body callee
         args)) (nodes_of callee ++ nodes_among args) r)
-        (inside_rises (node id at ty by (tree.ClosureCall body callee args)) (nodes_of callee ++ nodes_among args) r)
-        (first_of t.0.params callee args x t.1.1.1
-        (λ t' j. node_free callee x (Passed t') j (good_left (nodes_of callee) (nodes_among args) g)
-        (rises_left (nodes_of callee) (nodes_among args) (inside_rises (node id at ty by (tree.ClosureCall body callee
+        (inside_rises items needs q clear keeps over waits first fuel (node id at ty by (tree.ClosureCall body callee args)) (nodes_of callee ++ nodes_among args) r)
+        (first_of items needs q clear keeps over waits first fuel t.0.params callee args x t.1.1.1
+        (λ t' j. node_free callee x (Passed t') j (good_left items needs q clear keeps over waits first fuel (nodes_of callee) (nodes_among args) g)
+        (rises_left (nodes_of callee) (nodes_among args) (inside_rises items needs q clear keeps over waits first fuel (node id at ty by (tree.ClosureCall body callee
         args)) (nodes_of callee ++ nodes_among args) r)))
-        (λ ts j. args_free ts args x j (good_right (nodes_of callee) (nodes_among args) g)
-        (rises_right (nodes_of callee) (nodes_among args) (inside_rises (node id at ty by (tree.ClosureCall body callee
+        (λ ts j. args_free ts args x j (good_right items needs q clear keeps over waits first fuel (nodes_of callee) (nodes_among args) g)
+        (rises_right (nodes_of callee) (nodes_among args) (inside_rises items needs q clear keeps over waits first fuel (node id at ty by (tree.ClosureCall body callee
         args)) (nodes_of callee ++ nodes_among args) r)))) (λ site key e. e)
     form_free (tree.Make adt variant fields) x id at ty by h g r = let t = some_holds (types.variant_at items adt
         variant) (λ v. both
@@ -495,8 +263,8 @@ module _ {V : Type 0} (items : ItemTable) (needs : ℕ → Bool) (q : Effects V)
         (nodes_of_fields fields) ((node id at ty by (tree.Make adt variant fields)) ∷ nodes_of_fields fields) (inl refl)
         (kinds.part_of items needs q clear keeps over waits first fuel (node id at ty by (tree.Make adt variant
         fields)) (nodes_of_fields fields) r)
-        (inside_rises (node id at ty by (tree.Make adt variant fields)) (nodes_of_fields fields) r)
-        (fields_free t.0.fields fields x t.1.1.1 g (inside_rises (node id at ty by (tree.Make adt variant fields))
+        (inside_rises items needs q clear keeps over waits first fuel (node id at ty by (tree.Make adt variant fields)) (nodes_of_fields fields) r)
+        (fields_free t.0.fields fields x t.1.1.1 g (inside_rises items needs q clear keeps over waits first fuel (node id at ty by (tree.Make adt variant fields))
         (nodes_of_fields fields) r)) (λ site key e. e)
     form_free (tree.Tuple parts) x id at ty by h g r = let t = some_holds (types.tuple_of items ty) (λ tys.
         typing.made_parts (K x) tys parts) h in
@@ -507,8 +275,8 @@ module _ {V : Type 0} (items : ItemTable) (needs : ℕ → Bool) (q : Effects V)
         (nodes_among parts) ((node id at ty by (tree.Tuple parts)) ∷ nodes_among parts) (inl refl)
         (kinds.part_of items needs q clear keeps over waits first fuel (node id at ty by (tree.Tuple parts))
         (nodes_among parts) r)
-        (inside_rises (node id at ty by (tree.Tuple parts)) (nodes_among parts) r)
-        (parts_free t.0 parts x t.1.1 g (inside_rises (node id at ty by (tree.Tuple parts)) (nodes_among parts) r)) (λ
+        (inside_rises items needs q clear keeps over waits first fuel (node id at ty by (tree.Tuple parts)) (nodes_among parts) r)
+        (parts_free t.0 parts x t.1.1 g (inside_rises items needs q clear keeps over waits first fuel (node id at ty by (tree.Tuple parts)) (nodes_among parts) r)) (λ
         site key e. e)
     form_free (tree.Array elements) x id at ty by h g r = let t = some_holds (types.array_of items ty) (λ a. both
         (fact (pattern_rules.count_of elements == a.1)) (typing.elements_of (K x) a.0 elements)) h in
@@ -519,8 +287,8 @@ module _ {V : Type 0} (items : ItemTable) (needs : ℕ → Bool) (q : Effects V)
         (nodes_among elements) ((node id at ty by (tree.Array elements)) ∷ nodes_among elements) (inl refl)
         (kinds.part_of items needs q clear keeps over waits first fuel (node id at ty by (tree.Array elements))
         (nodes_among elements) r)
-        (inside_rises (node id at ty by (tree.Array elements)) (nodes_among elements) r)
-        (elements_free t.0.0 elements x t.1.1.1 g (inside_rises (node id at ty by (tree.Array elements)) (nodes_among
+        (inside_rises items needs q clear keeps over waits first fuel (node id at ty by (tree.Array elements)) (nodes_among elements) r)
+        (elements_free t.0.0 elements x t.1.1.1 g (inside_rises items needs q clear keeps over waits first fuel (node id at ty by (tree.Array elements)) (nodes_among
         elements) r)) (λ site key e. e)
     form_free (tree.Closure closure captures) x id at ty by h g r = let t = some_holds (slice_get items.closures
         closure) (λ def. typing.captured (K x) def.captures captures) h.1 in
@@ -531,78 +299,35 @@ module _ {V : Type 0} (items : ItemTable) (needs : ℕ → Bool) (q : Effects V)
         (nodes_among captures) ((node id at ty by (tree.Closure closure captures)) ∷ nodes_among captures) (inl refl)
         (kinds.part_of items needs q clear keeps over waits first fuel (node id at ty by (tree.Closure closure
         captures)) (nodes_among captures) r)
-        (inside_rises (node id at ty by (tree.Closure closure captures)) (nodes_among captures) r)
-        (captures_free t.0.captures captures x t.1.1 g (inside_rises (node id at ty by (tree.Closure closure captures))
+        (inside_rises items needs q clear keeps over waits first fuel (node id at ty by (tree.Closure closure captures)) (nodes_among captures) r)
+        (captures_free t.0.captures captures x t.1.1 g (inside_rises items needs q clear keeps over waits first fuel (node id at ty by (tree.Closure closure captures))
         (nodes_among captures) r)) (λ site key e. e)
-    form_free (tree.NewBox content) x id at ty by h g r = let t = some_holds (types.boxed_of items ty)
-        (λ inside. both (typing.typed (K x) (Wanted inside) content) (fact (not (types.is_dyn items inside)))) h in
-        kinds.operands_value items needs q clear keeps over waits first fuel (K x) (head id ty by) (shape_of items
-        (tree.NewBox content) (head id ty by))
-        (M content ∷ [])
-        (λ site. effects.NewBox site (moved id (M content).head.id))
-        (nodes_of content) ((node id at ty by (tree.NewBox content)) ∷ nodes_of content) (inl refl)
-        (kinds.part_of items needs q clear keeps over waits first fuel (node id at ty by (tree.NewBox content))
-        (nodes_of content) r)
-        (inside_rises (node id at ty by (tree.NewBox content)) (nodes_of content) r)
-        (kinds.one_free items needs q clear keeps over waits first fuel (K x) (M content) (nodes_of content)
-        (node_free content x (Wanted t.0) t.1.1.0 g (inside_rises (node id at ty by (tree.NewBox content)) (nodes_of
-        content) r))) (λ site key e. e)
-    form_free (tree.Print operand) x id at ty by h g r = let rs = inside_rises (node id at ty by (tree.Print operand))
-        (nodes_of operand) r in
-        kinds.unit_value items needs q clear keeps over waits first fuel (K x) (head id ty by) (shape_of items
-        (tree.Print operand) (head id ty by)) (M operand) effects.Print
-        (nodes_of operand) ((node id at ty by (tree.Print operand)) ∷ nodes_of operand) (inl refl) (kinds.part_of items
-        needs q clear keeps over waits first fuel (node id at ty by (tree.Print operand)) (nodes_of operand) r)
-        (node_free operand x Taken h.0 g rs) rs (λ o. refl)
-    form_free (tree.Forget operand) x id at ty by h g r = let rs = inside_rises (node id at ty by (tree.Forget
-        operand)) (nodes_of operand) r in
-        kinds.unit_value items needs q clear keeps over waits first fuel (K x) (head id ty by) (shape_of items
-        (tree.Forget operand) (head id ty by)) (M operand) effects.Forget
-        (nodes_of operand) ((node id at ty by (tree.Forget operand)) ∷ nodes_of operand) (inl refl) (kinds.part_of
-        items needs q clear keeps over waits first fuel (node id at ty by (tree.Forget operand)) (nodes_of operand)
-        r)
-        (node_free operand x Taken h.0 g rs) rs (λ o. refl)
-    form_free (tree.DropValue operand) x id at ty by h g r = let rs = inside_rises (node id at ty by (tree.DropValue
-        operand)) (nodes_of operand) r in
-        let p = (kinds.part_of items needs q clear keeps over waits first fuel (node id at ty by (tree.DropValue
-        operand)) (nodes_of operand) r) in
-        kinds.value_free items needs q clear keeps over waits first fuel (K x) (head id ty by) (shape_of items
-        (tree.DropValue operand) (head id ty by)) ((node id at ty by (tree.DropValue operand)) ∷ nodes_of operand)
-        (evaluation.drops items q fuel (head id ty by) (M operand)) (inl refl)
-        (λ around own to S v t d. operands.dropping_free items needs q clear keeps over waits first (K x) around own
-        (head id ty by) (M operand)
-        (forms.put_unit items q (head id ty by) to) (DestKey to) (nodes_of operand) ((node id at ty by (tree.DropValue
-        operand)) ∷ nodes_of operand)
-        (node_free operand x Taken h.0 g rs) p.within S v t
-        (operands.delivers_top items needs q clear keeps over waits first around (head id ty by) unit_action to
-        (nodes_of operand) ((node id at ty by (tree.DropValue operand)) ∷ nodes_of operand) S v
-        (λ site key e. e) d p))
+    form_free (tree.NewBox content) x id at ty by h g r =
+        let t = some_holds (types.boxed_of items ty) (λ inside. both (typing.typed (K x) (Wanted inside) content) (fact
+        (not (types.is_dyn items inside)))) h in
+        new_box_free items needs q clear keeps over waits first fuel x content id at ty by h g r (node_free content x (Wanted t.0) t.1.1.0 g (inside_rises items needs q clear keeps over waits first fuel (node id at
+        ty by (tree.NewBox content)) (nodes_of content) r))
+    form_free (tree.Print operand) x id at ty by h g r =
+        let rs = inside_rises items needs q clear keeps over waits first fuel (node id at ty by (tree.Print operand)) (nodes_of operand) r in
+        print_free items needs q clear keeps over waits first fuel x operand id at ty by h g r (node_free operand x Taken h.0 g rs)
+    form_free (tree.Forget operand) x id at ty by h g r =
+        let rs = inside_rises items needs q clear keeps over waits first fuel (node id at ty by (tree.Forget operand)) (nodes_of operand) r in
+        forget_free items needs q clear keeps over waits first fuel x operand id at ty by h g r (node_free operand x Taken h.0 g rs)
+    form_free (tree.DropValue operand) x id at ty by h g r =
+        let rs = inside_rises items needs q clear keeps over waits first fuel (node id at ty by (tree.DropValue operand)) (nodes_of operand) r in
+        drop_value_free items needs q clear keeps over waits first fuel x operand id at ty by h g r (node_free operand x Taken h.0 g rs)
     form_free tree.Panic x id at ty by h g r = kinds.value_free items needs q clear keeps over waits first fuel (K x)
         (head id ty by) (shape_of items tree.Panic (head id ty by)) ((node id at ty by tree.Panic) ∷ [])
         (λ around own to. forms.panics items q Why.Explicit) (inl refl)
         (λ around own to S v t d. arms.panics_free items needs q clear keeps over waits first around (DestKey to)
         ((node id at ty by tree.Panic) ∷ []) (Extends S) Why.Explicit S v (ext_same S))
-    form_free (tree.Borrow unique base) x id at ty by h g r = let rs = inside_rises (node id at ty by (tree.Borrow
-        unique base)) (nodes_of base) r in
-        kinds.value_free items needs q clear keeps over waits first fuel (K x) (head id ty by) (shape_of items
-        (tree.Borrow unique base) (head id ty by)) ((node id at ty by (tree.Borrow unique base)) ∷ nodes_of base)
-        (forms.borrowing items q (head id ty by) unique (M base)) (inl refl)
-        (λ around own to S v t d. operands.borrowing_free items needs q clear keeps over waits first (K x) around (head
-        id ty by) unique (M base) own to
-        (nodes_of base) ((node id at ty by (tree.Borrow unique base)) ∷ nodes_of base) (kinds.part_of items needs q
-        clear keeps over waits first fuel (node id at ty by (tree.Borrow unique base)) (nodes_of base) r)
-        (node_free base x (Used (borrow_by unique)) h.0 g rs) S v t d)
-    form_free (tree.Unsize trait_no operand) x id at ty by h g r = let rs = inside_rises (node id at ty by (tree.Unsize
-        trait_no operand)) (nodes_of operand) r in
-        kinds.value_free items needs q clear keeps over waits first fuel (K x) (head id ty by) (shape_of items
-        (tree.Unsize trait_no operand) (head id ty by)) ((node id at ty by (tree.Unsize trait_no operand)) ∷
-        nodes_of operand)
-        (evaluation.coerce items q fuel (head id ty by) trait_no (M operand)) (inl refl)
-        (λ around own to S v t d. coerced_free (K x) around (M operand) trait_no id (nodes_of operand)
-        ((node id at ty by (tree.Unsize trait_no operand)) ∷ nodes_of operand) (node_free operand x Taken h.0 g rs)
-        (kinds.part_of items needs q clear keeps over waits first fuel (node id at ty by (tree.Unsize trait_no
-        operand)) (nodes_of operand) r) own to S v t d)
-    form_free (tree.Block stmts tail) x id at ty by h g r = let rs = inside_rises (node id at ty by (tree.Block stmts
+    form_free (tree.Borrow unique base) x id at ty by h g r =
+        let rs = inside_rises items needs q clear keeps over waits first fuel (node id at ty by (tree.Borrow unique base)) (nodes_of base) r in
+        borrow_free items needs q clear keeps over waits first fuel x unique base id at ty by h g r (node_free base x (Used (borrow_by unique)) h.0 g rs)
+    form_free (tree.Unsize trait_no operand) x id at ty by h g r =
+        let rs = inside_rises items needs q clear keeps over waits first fuel (node id at ty by (tree.Unsize trait_no operand)) (nodes_of operand) r in
+        unsize_free items needs q clear keeps over waits first fuel x trait_no operand id at ty by h g r (node_free operand x Taken h.0 g rs)
+    form_free (tree.Block stmts tail) x id at ty by h g r = let rs = inside_rises items needs q clear keeps over waits first fuel (node id at ty by (tree.Block stmts
         tail)) (nodes_among stmts ++ nodes_if_any tail) r in
         let p = (kinds.part_of items needs q clear keeps over waits first fuel (node id at ty by (tree.Block stmts
         tail)) (nodes_among stmts ++ nodes_if_any tail) r) in
@@ -624,7 +349,7 @@ module _ {V : Type 0} (items : ItemTable) (needs : ℕ → Bool) (q : Effects V)
         (with_scope id own S) v
         (forms.statements items q around (Ms stmts) (with_scope id own S) v)
         (forms.tail_of items q (head id ty by) (Mi tail) around to)
-        (statements_free stmts x (λ d. typing.tail_of d tail) h.0 (good_left (nodes_among stmts) (nodes_if_any tail) g)
+        (statements_free stmts x (λ d. typing.tail_of d tail) h.0 (good_left items needs q clear keeps over waits first fuel (nodes_among stmts) (nodes_if_any tail) g)
         (rises_left (nodes_among stmts) (nodes_if_any tail) rs) around S (with_scope id own S) v (ext_same S)
         (rules.ready_opened items needs q clear keeps over waits first (K x) around (nodes_among stmts) id own S v
         (rules.ready_part items needs q clear keeps over waits first (K x) around (nodes_among stmts) ((node id at ty
@@ -635,7 +360,7 @@ module _ {V : Type 0} (items : ItemTable) (needs : ℕ → Bool) (q : Effects V)
         ((node id at ty by (tree.Block stmts tail)) ∷ nodes_among stmts ++ nodes_if_any tail) S T w k.0
         (tail_ready tail (behind x stmts) (facts.behind_holds items (λ key. false) q (again.no_clear items needs q
         clear keeps) (again.keeps_none items needs q clear keeps) fuel stmts x (λ d. typing.tail_of d tail) h.0)
-        (good_right (nodes_among stmts) (nodes_if_any tail) g) (rises_right (nodes_among stmts) (nodes_if_any tail) rs)
+        (good_right items needs q clear keeps over waits first fuel (nodes_among stmts) (nodes_if_any tail) g) (rises_right (nodes_among stmts) (nodes_if_any tail) rs)
         x (facts.same_loops items (λ key. false) q (again.no_clear items needs q clear keeps) (again.keeps_none items
         needs q clear keeps) fuel stmts x) (facts.same_answer items (λ key. false) q (again.no_clear items needs q
         clear keeps) (again.keeps_none items needs q clear keeps) fuel stmts x) around id (nodes_among stmts)
@@ -645,252 +370,59 @@ module _ {V : Type 0} (items : ItemTable) (needs : ℕ → Bool) (q : Effects V)
         (λ z i. j z (d.free z i)
         (rules.dest_apart items needs q clear keeps over waits first id (nodes_among stmts) ((node id at ty by
         (tree.Block stmts tail)) ∷ nodes_among stmts ++ nodes_if_any tail) to S v d ps z i) (λ y. y)) d.two)))
-    form_free (tree.If condition consequent absent) x id at ty by h g r = let rs = inside_rises (node id at ty by
-        (tree.If condition consequent absent)) (nodes_of condition ++ nodes_of consequent ++ []) r in
-        let p = (kinds.part_of items needs q clear keeps over waits first fuel (node id at ty by (tree.If condition
-        consequent absent)) (nodes_of condition ++ nodes_of consequent ++ []) r) in
-        let rab = rises_left (nodes_of condition ++ nodes_of consequent) ([]) rs in
-        let gab = good_left (nodes_of condition ++ nodes_of consequent) ([]) g in
-        let pab = kinds.part_left items needs q clear keeps over waits first fuel id (nodes_of condition ++ nodes_of
-        consequent) ([]) ((node id at ty by (tree.If condition consequent absent)) ∷ nodes_of condition ++ nodes_of
-        consequent ++ []) p in
-        let pa = kinds.part_left items needs q clear keeps over waits first fuel id (nodes_of condition) (nodes_of
-        consequent) ((node id at ty by (tree.If condition consequent absent)) ∷ nodes_of condition ++ nodes_of
-        consequent ++ []) pab in
-        let pb = kinds.part_right items needs q clear keeps over waits first fuel id (nodes_of condition) (nodes_of
-        consequent) ((node id at ty by (tree.If condition consequent absent)) ∷ nodes_of condition ++ nodes_of
-        consequent ++ []) pab in
-        let fc = node_free condition x Taken h.0 (good_left (nodes_of condition) (nodes_of consequent) gab)
-        (rises_left (nodes_of condition) (nodes_of consequent) rab) in
-        let fb = node_free consequent x Taken h.1.1.0 (good_right (nodes_of condition) (nodes_of consequent) gab)
-        (rises_right (nodes_of condition) (nodes_of consequent) rab) in
-        kinds.scope_free items needs q clear keeps over waits first fuel (K x) (head id ty by) (shape_of items (tree.If
-        condition consequent absent) (head id ty by)) ((node id at ty by (tree.If condition consequent absent)) ∷
-        nodes_of condition ++ nodes_of consequent ++ [])
-        (evaluation.if_else items q fuel (head id ty by) (M condition) (M consequent) None) (inl refl)
-        (λ around to S v t d. choices.condition_free items needs q clear keeps over waits first (K x) around (M
-        condition)
-        (forms.alone items q around (M consequent) to) (forms.put_unit items q (head id ty by) to) (DestKey to)
-        (nodes_of condition)
-        ((node id at ty by (tree.If condition consequent absent)) ∷ nodes_of condition ++ nodes_of consequent ++ []) fc
-        pa.within S v (rules.ready_part items needs q clear keeps over waits first (K x) around (nodes_of
-        condition) ((node id at ty by (tree.If condition consequent absent)) ∷ nodes_of condition ++ nodes_of
-        consequent ++ []) S v pa.within t)
-        (λ T w e j. kinds.branch_free items needs q clear keeps over waits first fuel (K x) around (M consequent) to id
-        (nodes_of condition) (nodes_of consequent)
-        ((node id at ty by (tree.If condition consequent absent)) ∷ nodes_of condition ++ nodes_of consequent ++ []) fb
-        pa pb (rises_apart (nodes_of condition) (nodes_of consequent) rab) S v t d T w e j)
-        (λ T w e j. kinds.gives_free items needs q clear keeps over waits first fuel around (head id ty by) unit_action
-        to (nodes_of condition)
-        ((node id at ty by (tree.If condition consequent absent)) ∷ nodes_of condition ++ nodes_of consequent ++ []) pa
-        (λ site key e. e) S v d T w e j))
-    form_free (tree.If condition consequent (present otherwise)) x id at ty by h g r = let rs = inside_rises (node id
-        at ty by (tree.If condition consequent (present otherwise))) (nodes_of condition ++ nodes_of consequent ++
-        nodes_of otherwise) r in
-        let p = (kinds.part_of items needs q clear keeps over waits first fuel (node id at ty by (tree.If condition
-        consequent (present otherwise))) (nodes_of condition ++ nodes_of consequent ++ nodes_of otherwise) r) in
-        let rab = rises_left (nodes_of condition ++ nodes_of consequent) (nodes_of otherwise) rs in
-        let gab = good_left (nodes_of condition ++ nodes_of consequent) (nodes_of otherwise) g in
-        let pab = kinds.part_left items needs q clear keeps over waits first fuel id (nodes_of condition ++ nodes_of
-        consequent) (nodes_of otherwise) ((node id at ty by (tree.If condition consequent (present otherwise))) ∷
-        nodes_of condition ++ nodes_of consequent ++ nodes_of otherwise) p in
-        let pa = kinds.part_left items needs q clear keeps over waits first fuel id (nodes_of condition) (nodes_of
-        consequent) ((node id at ty by (tree.If condition consequent (present otherwise))) ∷ nodes_of condition ++
-        nodes_of consequent ++ nodes_of otherwise) pab in
-        let pb = kinds.part_right items needs q clear keeps over waits first fuel id (nodes_of condition) (nodes_of
-        consequent) ((node id at ty by (tree.If condition consequent (present otherwise))) ∷ nodes_of condition ++
-        nodes_of consequent ++ nodes_of otherwise) pab in
-        let fc = node_free condition x Taken h.0 (good_left (nodes_of condition) (nodes_of consequent) gab)
-        (rises_left (nodes_of condition) (nodes_of consequent) rab) in
-        let fb = node_free consequent x Taken h.1.1.0 (good_right (nodes_of condition) (nodes_of consequent) gab)
-        (rises_right (nodes_of condition) (nodes_of consequent) rab) in
-        let fo = node_free otherwise x Taken h.1.1.1.0 (good_right (nodes_of condition ++ nodes_of consequent)
-        (nodes_of otherwise) g)
-        (rises_right (nodes_of condition ++ nodes_of consequent) (nodes_of otherwise) rs) in
-        let po = kinds.part_right items needs q clear keeps over waits first fuel id (nodes_of condition ++ nodes_of
-        consequent) (nodes_of otherwise) ((node id at ty by (tree.If condition consequent (present otherwise))) ∷
-        nodes_of condition ++ nodes_of consequent ++ nodes_of otherwise) p in
-        kinds.scope_free items needs q clear keeps over waits first fuel (K x) (head id ty by) (shape_of items (tree.If
-        condition consequent (present otherwise)) (head id ty by)) ((node id at ty by (tree.If condition consequent
-        (present otherwise))) ∷ nodes_of condition ++ nodes_of consequent ++ nodes_of otherwise)
-        (evaluation.if_else items q fuel (head id ty by) (M condition) (M consequent) (Some (M otherwise))) (inl refl)
-        (λ around to S v t d. choices.condition_free items needs q clear keeps over waits first (K x) around (M
-        condition)
-        (forms.alone items q around (M consequent) to) (forms.alone items q around (M otherwise) to) (DestKey to)
-        (nodes_of condition)
-        ((node id at ty by (tree.If condition consequent (present otherwise))) ∷ nodes_of condition ++ nodes_of
-        consequent ++ nodes_of otherwise) fc pa.within S v (rules.ready_part items needs q clear keeps over waits
-        first (K x) around (nodes_of condition) ((node id at ty by (tree.If condition consequent (present
-        otherwise))) ∷ nodes_of condition ++ nodes_of consequent ++ nodes_of otherwise) S v pa.within t)
-        (λ T w e j. kinds.branch_free items needs q clear keeps over waits first fuel (K x) around (M consequent) to id
-        (nodes_of condition) (nodes_of consequent)
-        ((node id at ty by (tree.If condition consequent (present otherwise))) ∷ nodes_of condition ++ nodes_of
-        consequent ++ nodes_of otherwise) fb pa pb (rises_apart (nodes_of condition) (nodes_of consequent) rab) S v
-        t d T w e j)
-        (λ T w e j. kinds.branch_free items needs q clear keeps over waits first fuel (K x) around (M otherwise) to id
-        (nodes_of condition) (nodes_of otherwise)
-        ((node id at ty by (tree.If condition consequent (present otherwise))) ∷ nodes_of condition ++ nodes_of
-        consequent ++ nodes_of otherwise) fo pa po (λ z i k. rises_apart (nodes_of condition ++ nodes_of
-        consequent) (nodes_of otherwise) rs z
-        (numbered_left (nodes_of condition) (nodes_of consequent) z i) k) S v t d T w e j))
-    form_free (tree.IfLet pattern scrutinee consequent absent) x id at ty by h g r = let rs = inside_rises (node id at
-        ty by (tree.IfLet pattern scrutinee consequent absent)) (nodes_of pattern ++ nodes_of scrutinee ++ nodes_of
+    form_free (tree.If condition consequent absent) x id at ty by h g r =
+        let rs = inside_rises items needs q clear keeps over waits first fuel (node id at ty by (tree.If condition consequent absent)) (nodes_of condition ++ nodes_of
         consequent ++ []) r in
-        let p = (kinds.part_of items needs q clear keeps over waits first fuel (node id at ty by (tree.IfLet pattern
-        scrutinee consequent absent)) (nodes_of pattern ++ nodes_of scrutinee ++ nodes_of consequent ++ []) r) in
+        let rab = rises_left (nodes_of condition ++ nodes_of consequent) ([]) rs in
+        let gab = good_left items needs q clear keeps over waits first fuel (nodes_of condition ++ nodes_of consequent) ([]) g in
+        if_free items needs q clear keeps over waits first fuel x condition consequent id at ty by h g r (node_free condition x Taken h.0 (good_left items needs q clear keeps over waits first fuel (nodes_of
+        condition) (nodes_of consequent) gab) (rises_left (nodes_of condition) (nodes_of consequent) rab))
+        (node_free consequent x Taken h.1.1.0 (good_right items needs q clear keeps over waits first fuel (nodes_of condition) (nodes_of consequent) gab)
+        (rises_right (nodes_of condition) (nodes_of consequent) rab))
+    form_free (tree.If condition consequent (present otherwise)) x id at ty by h g r =
+        let rs = inside_rises items needs q clear keeps over waits first fuel (node id at ty by (tree.If condition consequent (present otherwise))) (nodes_of condition
+        ++ nodes_of consequent ++ nodes_of otherwise) r in
+        let rab = rises_left (nodes_of condition ++ nodes_of consequent) (nodes_of otherwise) rs in
+        let gab = good_left items needs q clear keeps over waits first fuel (nodes_of condition ++ nodes_of consequent) (nodes_of otherwise) g in
+        if_else_free items needs q clear keeps over waits first fuel x condition consequent otherwise id at ty by h g r (node_free condition x Taken h.0 (good_left items needs q clear keeps over waits first fuel
+        (nodes_of condition) (nodes_of consequent) gab) (rises_left (nodes_of condition) (nodes_of consequent)
+        rab)) (node_free consequent x Taken h.1.1.0 (good_right items needs q clear keeps over waits first fuel (nodes_of condition) (nodes_of consequent) gab)
+        (rises_right (nodes_of condition) (nodes_of consequent) rab)) (node_free otherwise x Taken h.1.1.1.0
+        (good_right items needs q clear keeps over waits first fuel (nodes_of condition ++ nodes_of consequent) (nodes_of otherwise) g) (rises_right (nodes_of
+        condition ++ nodes_of consequent) (nodes_of otherwise) rs))
+    form_free (tree.IfLet pattern scrutinee consequent absent) x id at ty by h g r =
+        let rs = inside_rises items needs q clear keeps over waits first fuel (node id at ty by (tree.IfLet pattern scrutinee consequent absent)) (nodes_of pattern ++
+        nodes_of scrutinee ++ nodes_of consequent ++ []) r in
         let r3 = rises_left (nodes_of pattern ++ nodes_of scrutinee ++ nodes_of consequent) ([]) rs in
-        let g3 = good_left (nodes_of pattern ++ nodes_of scrutinee ++ nodes_of consequent) ([]) g in
-        let p3 = kinds.part_left items needs q clear keeps over waits first fuel id (nodes_of pattern ++ nodes_of
-        scrutinee ++ nodes_of consequent) ([]) ((node id at ty by (tree.IfLet pattern scrutinee consequent absent))
-        ∷ nodes_of pattern ++ nodes_of scrutinee ++ nodes_of consequent ++ []) p in
+        let g3 = good_left items needs q clear keeps over waits first fuel (nodes_of pattern ++ nodes_of scrutinee ++ nodes_of consequent) ([]) g in
         let r2 = rises_left (nodes_of pattern ++ nodes_of scrutinee) (nodes_of consequent) r3 in
-        let g2 = good_left (nodes_of pattern ++ nodes_of scrutinee) (nodes_of consequent) g3 in
-        let p2 = kinds.part_left items needs q clear keeps over waits first fuel id (nodes_of pattern ++ nodes_of
-        scrutinee) (nodes_of consequent) ((node id at ty by (tree.IfLet pattern scrutinee consequent absent)) ∷
-        nodes_of pattern ++ nodes_of scrutinee ++ nodes_of consequent ++ []) p3 in
-        let pb = kinds.part_right items needs q clear keeps over waits first fuel id (nodes_of pattern ++ nodes_of
-        scrutinee) (nodes_of consequent) ((node id at ty by (tree.IfLet pattern scrutinee consequent absent)) ∷
-        nodes_of pattern ++ nodes_of scrutinee ++ nodes_of consequent ++ []) p3 in
-        let pp = kinds.part_left items needs q clear keeps over waits first fuel id (nodes_of pattern) (nodes_of
-        scrutinee) ((node id at ty by (tree.IfLet pattern scrutinee consequent absent)) ∷ nodes_of pattern ++
-        nodes_of scrutinee ++ nodes_of consequent ++ []) p2 in
-        let psc = kinds.part_right items needs q clear keeps over waits first fuel id (nodes_of pattern) (nodes_of
-        scrutinee) ((node id at ty by (tree.IfLet pattern scrutinee consequent absent)) ∷ nodes_of pattern ++
-        nodes_of scrutinee ++ nodes_of consequent ++ []) p2 in
-        let fs = node_free scrutinee x (Used Use.Borrow) h.0 (good_right (nodes_of pattern) (nodes_of scrutinee) g2)
-        (rises_right (nodes_of pattern) (nodes_of scrutinee) r2) in
-        let fb = node_free consequent (with_names (pattern_rules.entries_of pattern) x) Taken h.1.1.0
-        (good_right (nodes_of pattern ++ nodes_of scrutinee) (nodes_of consequent) g3) (rises_right (nodes_of pattern
-        ++ nodes_of scrutinee) (nodes_of consequent) r3) in
-        kinds.scope_free items needs q clear keeps over waits first fuel (K x) (head id ty by) (shape_of items
-        (tree.IfLet pattern scrutinee consequent absent) (head id ty by)) ((node id at ty by (tree.IfLet pattern
-        scrutinee consequent absent)) ∷ nodes_of pattern ++ nodes_of scrutinee ++ nodes_of consequent ++ [])
-        (evaluation.if_let items q fuel (head id ty by) (M pattern) (M scrutinee) (M consequent) None) (inl refl)
-        (λ around to S v t d. arms.if_taken_free items needs q clear keeps over waits first (K x) around (head id ty
-        by) (M pattern) (M scrutinee)
-        (forms.alone items q around (M consequent) to) (forms.put_unit items q (head id ty by) to) (DestKey to)
-        (nodes_of pattern) (nodes_of scrutinee)
-        ((node id at ty by (tree.IfLet pattern scrutinee consequent absent)) ∷ nodes_of pattern ++ nodes_of scrutinee
-        ++ nodes_of consequent ++ []) fs (rises_apart (nodes_of pattern) (nodes_of scrutinee) r2) pp.within
-        psc.within
-        (turns.pattern_tests items needs q clear keeps over waits first fuel pattern (place_of (M scrutinee) around))
-        (turns.bound_distinct items needs q clear keeps over waits first fuel pattern (place_of (M scrutinee) around)
-        (rises_left (nodes_of pattern) (nodes_of scrutinee) r2))
-        (turns.bound_in items needs q clear keeps over waits first fuel pattern (place_of (M scrutinee) around)) S v t
-        (λ U u k j. rules.more_free items needs q clear keeps over waits first around (DestKey to) (DestKey to)
-        (nodes_of consequent) ((node id at ty by (tree.IfLet pattern scrutinee consequent absent)) ∷ nodes_of
-        pattern ++ nodes_of scrutinee ++ nodes_of consequent ++ []) U u
-        (Extends U) (OnTop S) (forms.alone items q around (M consequent) to U u)
-        (choices.alone_free items needs q clear keeps over waits first (K (with_names (pattern_rules.entries_of
-        pattern) x)) around (M consequent) to
-        (nodes_of consequent) fb U u
-        (record {
-          ok = turns.named_around items needs q clear keeps over waits first fuel pattern x (typing.matched_in false (K
-              x) scrutinee) (ty_of scrutinee) h.1.0.1 around U
-              (place_of (M scrutinee) around) (around_top items (K x) around S U k.0 t.ok) k.1;
-          free = λ z i. j z (t.free z (pb.within z i)) (λ y. rises_apart (nodes_of pattern ++ nodes_of scrutinee)
-              (nodes_of consequent) r3 z y i);
-          jumps = λ z i. let y = t.jumps z i in (j z y.0 (λ m. y.1 (p2.within z m)), λ m. y.1 (pb.within z m));
-          twos = t.twos;
-        })
-        (rules.dest_after items needs q clear keeps over waits first id (M consequent).head.id (nodes_of pattern ++
-        nodes_of scrutinee) (nodes_of consequent) ((node id at ty by (tree.IfLet pattern scrutinee consequent
-        absent)) ∷ nodes_of pattern ++ nodes_of scrutinee ++ nodes_of consequent ++ []) Nothing to S U v u d
-        p2 pb (λ z i. absurd i) (λ z fr i m. j z fr i))) pb.within (λ z i. inr i) (λ exit Z e. top_then S U Z k.0 e))
-        (λ T w e j. kinds.gives_free items needs q clear keeps over waits first fuel around (head id ty by) unit_action
-        to (nodes_of scrutinee)
-        ((node id at ty by (tree.IfLet pattern scrutinee consequent absent)) ∷ nodes_of pattern ++ nodes_of scrutinee
-        ++ nodes_of consequent ++ []) psc (λ site key e. e) S v d T w e j))
-    form_free (tree.IfLet pattern scrutinee consequent (present otherwise)) x id at ty by h g r = let rs = inside_rises
-        (node id at ty by (tree.IfLet pattern scrutinee consequent (present otherwise))) (nodes_of pattern ++ nodes_of
-        scrutinee ++ nodes_of consequent ++ nodes_of otherwise) r in
-        let p = (kinds.part_of items needs q clear keeps over waits first fuel (node id at ty by (tree.IfLet pattern
-        scrutinee consequent (present otherwise))) (nodes_of pattern ++ nodes_of scrutinee ++ nodes_of consequent
-        ++ nodes_of otherwise) r) in
+        let g2 = good_left items needs q clear keeps over waits first fuel (nodes_of pattern ++ nodes_of scrutinee) (nodes_of consequent) g3 in
+        if_let_free items needs q clear keeps over waits first fuel x pattern scrutinee consequent id at ty by h g r (node_free scrutinee x (Used Use.Borrow) h.0
+        (good_right items needs q clear keeps over waits first fuel (nodes_of pattern) (nodes_of scrutinee) g2) (rises_right (nodes_of pattern) (nodes_of
+        scrutinee) r2)) (node_free consequent (with_names (pattern_rules.entries_of pattern) x) Taken h.1.1.0
+        (good_right items needs q clear keeps over waits first fuel (nodes_of pattern ++ nodes_of scrutinee) (nodes_of consequent) g3) (rises_right (nodes_of
+        pattern ++ nodes_of scrutinee) (nodes_of consequent) r3))
+    form_free (tree.IfLet pattern scrutinee consequent (present otherwise)) x id at ty by h g r =
+        let rs = inside_rises items needs q clear keeps over waits first fuel (node id at ty by (tree.IfLet pattern scrutinee consequent (present otherwise)))
+        (nodes_of pattern ++ nodes_of scrutinee ++ nodes_of consequent ++ nodes_of otherwise) r in
         let r3 = rises_left (nodes_of pattern ++ nodes_of scrutinee ++ nodes_of consequent) (nodes_of otherwise) rs in
-        let g3 = good_left (nodes_of pattern ++ nodes_of scrutinee ++ nodes_of consequent) (nodes_of otherwise) g in
-        let p3 = kinds.part_left items needs q clear keeps over waits first fuel id (nodes_of pattern ++ nodes_of
-        scrutinee ++ nodes_of consequent) (nodes_of otherwise) ((node id at ty by (tree.IfLet pattern scrutinee
-        consequent (present otherwise))) ∷ nodes_of pattern ++ nodes_of scrutinee ++ nodes_of consequent ++
-        nodes_of otherwise) p in
+        let g3 = good_left items needs q clear keeps over waits first fuel (nodes_of pattern ++ nodes_of scrutinee ++ nodes_of consequent) (nodes_of otherwise) g in
         let r2 = rises_left (nodes_of pattern ++ nodes_of scrutinee) (nodes_of consequent) r3 in
-        let g2 = good_left (nodes_of pattern ++ nodes_of scrutinee) (nodes_of consequent) g3 in
-        let p2 = kinds.part_left items needs q clear keeps over waits first fuel id (nodes_of pattern ++ nodes_of
-        scrutinee) (nodes_of consequent) ((node id at ty by (tree.IfLet pattern scrutinee consequent (present
-        otherwise))) ∷ nodes_of pattern ++ nodes_of scrutinee ++ nodes_of consequent ++ nodes_of otherwise) p3 in
-        let pb = kinds.part_right items needs q clear keeps over waits first fuel id (nodes_of pattern ++ nodes_of
-        scrutinee) (nodes_of consequent) ((node id at ty by (tree.IfLet pattern scrutinee consequent (present
-        otherwise))) ∷ nodes_of pattern ++ nodes_of scrutinee ++ nodes_of consequent ++ nodes_of otherwise) p3 in
-        let pp = kinds.part_left items needs q clear keeps over waits first fuel id (nodes_of pattern) (nodes_of
-        scrutinee) ((node id at ty by (tree.IfLet pattern scrutinee consequent (present otherwise))) ∷ nodes_of
-        pattern ++ nodes_of scrutinee ++ nodes_of consequent ++ nodes_of otherwise) p2 in
-        let psc = kinds.part_right items needs q clear keeps over waits first fuel id (nodes_of pattern) (nodes_of
-        scrutinee) ((node id at ty by (tree.IfLet pattern scrutinee consequent (present otherwise))) ∷ nodes_of
-        pattern ++ nodes_of scrutinee ++ nodes_of consequent ++ nodes_of otherwise) p2 in
-        let fs = node_free scrutinee x (Used Use.Borrow) h.0 (good_right (nodes_of pattern) (nodes_of scrutinee) g2)
-        (rises_right (nodes_of pattern) (nodes_of scrutinee) r2) in
-        let fb = node_free consequent (with_names (pattern_rules.entries_of pattern) x) Taken h.1.1.0
-        (good_right (nodes_of pattern ++ nodes_of scrutinee) (nodes_of consequent) g3) (rises_right (nodes_of pattern
-        ++ nodes_of scrutinee) (nodes_of consequent) r3) in
-        let fo = node_free otherwise x Taken h.1.1.1.0 (good_right (nodes_of pattern ++ nodes_of scrutinee ++ nodes_of
-        consequent) (nodes_of otherwise) g)
-        (rises_right (nodes_of pattern ++ nodes_of scrutinee ++ nodes_of consequent) (nodes_of otherwise) rs) in
-        let po = kinds.part_right items needs q clear keeps over waits first fuel id (nodes_of pattern ++ nodes_of
-        scrutinee ++ nodes_of consequent) (nodes_of otherwise) ((node id at ty by (tree.IfLet pattern scrutinee
-        consequent (present otherwise))) ∷ nodes_of pattern ++ nodes_of scrutinee ++ nodes_of consequent ++
-        nodes_of otherwise) p in
-        kinds.scope_free items needs q clear keeps over waits first fuel (K x) (head id ty by) (shape_of items
-        (tree.IfLet pattern scrutinee consequent (present otherwise)) (head id ty by)) ((node id at ty by
-        (tree.IfLet pattern scrutinee consequent (present otherwise))) ∷ nodes_of pattern ++ nodes_of scrutinee ++
-        nodes_of consequent ++ nodes_of otherwise)
-        (evaluation.if_let items q fuel (head id ty by) (M pattern) (M scrutinee) (M consequent) (Some (M otherwise)))
-        (inl refl)
-        (λ around to S v t d. arms.if_taken_free items needs q clear keeps over waits first (K x) around (head id ty
-        by) (M pattern) (M scrutinee)
-        (forms.alone items q around (M consequent) to) (forms.alone items q around (M otherwise) to) (DestKey to)
-        (nodes_of pattern) (nodes_of scrutinee)
-        ((node id at ty by (tree.IfLet pattern scrutinee consequent (present otherwise))) ∷ nodes_of pattern ++
-        nodes_of scrutinee ++ nodes_of consequent ++ nodes_of otherwise) fs (rises_apart (nodes_of pattern)
-        (nodes_of scrutinee) r2) pp.within psc.within
-        (turns.pattern_tests items needs q clear keeps over waits first fuel pattern (place_of (M scrutinee) around))
-        (turns.bound_distinct items needs q clear keeps over waits first fuel pattern (place_of (M scrutinee) around)
-        (rises_left (nodes_of pattern) (nodes_of scrutinee) r2))
-        (turns.bound_in items needs q clear keeps over waits first fuel pattern (place_of (M scrutinee) around)) S v t
-        (λ U u k j. rules.more_free items needs q clear keeps over waits first around (DestKey to) (DestKey to)
-        (nodes_of consequent) ((node id at ty by (tree.IfLet pattern scrutinee consequent (present otherwise))) ∷
-        nodes_of pattern ++ nodes_of scrutinee ++ nodes_of consequent ++ nodes_of otherwise) U u
-        (Extends U) (OnTop S) (forms.alone items q around (M consequent) to U u)
-        (choices.alone_free items needs q clear keeps over waits first (K (with_names (pattern_rules.entries_of
-        pattern) x)) around (M consequent) to
-        (nodes_of consequent) fb U u
-        (record {
-          ok = turns.named_around items needs q clear keeps over waits first fuel pattern x (typing.matched_in false (K
-              x) scrutinee) (ty_of scrutinee) h.1.0.1 around U
-              (place_of (M scrutinee) around) (around_top items (K x) around S U k.0 t.ok) k.1;
-          free = λ z i. j z (t.free z (pb.within z i)) (λ y. rises_apart (nodes_of pattern ++ nodes_of scrutinee)
-              (nodes_of consequent) r3 z y i);
-          jumps = λ z i. let y = t.jumps z i in (j z y.0 (λ m. y.1 (p2.within z m)), λ m. y.1 (pb.within z m));
-          twos = t.twos;
-        })
-        (rules.dest_after items needs q clear keeps over waits first id (M consequent).head.id (nodes_of pattern ++
-        nodes_of scrutinee) (nodes_of consequent) ((node id at ty by (tree.IfLet pattern scrutinee consequent
-        (present otherwise))) ∷ nodes_of pattern ++ nodes_of scrutinee ++ nodes_of consequent ++ nodes_of
-        otherwise) Nothing to S U v u d
-        p2 pb (λ z i. absurd i) (λ z fr i m. j z fr i))) pb.within (λ z i. inr i) (λ exit Z e. top_then S U Z k.0 e))
-        (λ T w e j. kinds.branch_free items needs q clear keeps over waits first fuel (K x) around (M otherwise) to id
-        (nodes_of scrutinee) (nodes_of otherwise)
-        ((node id at ty by (tree.IfLet pattern scrutinee consequent (present otherwise))) ∷ nodes_of pattern ++
-        nodes_of scrutinee ++ nodes_of consequent ++ nodes_of otherwise) fo psc po (λ z i k. rises_apart (nodes_of
-        pattern ++ nodes_of scrutinee ++ nodes_of consequent) (nodes_of otherwise) rs z
-        (numbered_left (nodes_of pattern ++ nodes_of scrutinee) (nodes_of consequent) z
-        (numbered_right (nodes_of pattern) (nodes_of scrutinee) z i)) k) S v t d T w e j))
-    form_free (tree.Match scrutinee arms_) x id at ty by h g r = let rs = inside_rises (node id at ty by (tree.Match
+        let g2 = good_left items needs q clear keeps over waits first fuel (nodes_of pattern ++ nodes_of scrutinee) (nodes_of consequent) g3 in
+        if_let_else_free items needs q clear keeps over waits first fuel x pattern scrutinee consequent otherwise id at ty by h g r (node_free scrutinee x (Used
+        Use.Borrow) h.0 (good_right items needs q clear keeps over waits first fuel (nodes_of pattern) (nodes_of scrutinee) g2) (rises_right (nodes_of pattern)
+        (nodes_of scrutinee) r2)) (node_free consequent (with_names (pattern_rules.entries_of pattern) x) Taken
+        h.1.1.0 (good_right items needs q clear keeps over waits first fuel (nodes_of pattern ++ nodes_of scrutinee) (nodes_of consequent) g3) (rises_right
+        (nodes_of pattern ++ nodes_of scrutinee) (nodes_of consequent) r3)) (node_free otherwise x Taken h.1.1.1.0
+        (good_right items needs q clear keeps over waits first fuel (nodes_of pattern ++ nodes_of scrutinee ++ nodes_of consequent) (nodes_of otherwise) g)
+        (rises_right (nodes_of pattern ++ nodes_of scrutinee ++ nodes_of consequent) (nodes_of otherwise) rs))
+    form_free (tree.Match scrutinee arms_) x id at ty by h g r = let rs = inside_rises items needs q clear keeps over waits first fuel (node id at ty by (tree.Match
         scrutinee arms_)) (nodes_of scrutinee ++ nodes_among arms_) r in
         let p = (kinds.part_of items needs q clear keeps over waits first fuel (node id at ty by (tree.Match scrutinee
         arms_)) (nodes_of scrutinee ++ nodes_among arms_) r) in
         let pa = kinds.part_right items needs q clear keeps over waits first fuel id (nodes_of scrutinee) (nodes_among
         arms_) ((node id at ty by (tree.Match scrutinee arms_)) ∷ nodes_of scrutinee ++ nodes_among arms_) p in
-        let fs = node_free scrutinee x (Used Use.Borrow) h.0 (good_left (nodes_of scrutinee) (nodes_among arms_) g)
+        let fs = node_free scrutinee x (Used Use.Borrow) h.0 (good_left items needs q clear keeps over waits first fuel (nodes_of scrutinee) (nodes_among arms_) g)
         (rises_left (nodes_of scrutinee) (nodes_among arms_) rs) in
         kinds.value_free items needs q clear keeps over waits first fuel (K x) (head id ty by) (shape_of items
         (tree.Match scrutinee arms_) (head id ty by)) ((node id at ty by (tree.Match scrutinee arms_)) ∷ nodes_of
@@ -901,368 +433,45 @@ module _ {V : Type 0} (items : ItemTable) (needs : ℕ → Bool) (q : Effects V)
         (nodes_of scrutinee) (nodes_among arms_) ((node id at ty by (tree.Match scrutinee arms_)) ∷ nodes_of scrutinee
         ++ nodes_among arms_) rs fs
         (arms_free arms_ x (typing.matched_in false (K x) scrutinee) (ty_of scrutinee) h.1.0
-        (good_right (nodes_of scrutinee) (nodes_among arms_) g) (rises_right (nodes_of scrutinee) (nodes_among arms_)
+        (good_right items needs q clear keeps over waits first fuel (nodes_of scrutinee) (nodes_among arms_) g) (rises_right (nodes_of scrutinee) (nodes_among arms_)
         rs)
         around (place_of (M scrutinee) around) ((node id at ty by (tree.Match scrutinee arms_)) ∷ nodes_of scrutinee ++
         nodes_among arms_)) p S v t d
         (λ T w y. again.root_named items needs q clear keeps fuel scrutinee x (Used Use.Borrow) h.0 around T w y.ok))
-    form_free (tree.Loop body) x id at ty by h g r = let rs = inside_rises (node id at ty by (tree.Loop body))
-        (nodes_of body) r in
-        let p = (kinds.part_of items needs q clear keeps over waits first fuel (node id at ty by (tree.Loop body))
-        (nodes_of body) r) in
+    form_free (tree.Loop body) x id at ty by h g r =
+        let rs = inside_rises items needs q clear keeps over waits first fuel (node id at ty by (tree.Loop body)) (nodes_of body) r in
         let xs = in_a_loop (record { loop = id; ty = ty; has_value = true }) x in
-        let fb = node_free body xs Taken h.0 g rs in
-        kinds.scope_free items needs q clear keeps over waits first fuel (K x) (head id ty by) (shape_of items
-        (tree.Loop body) (head id ty by)) ((node id at ty by (tree.Loop body)) ∷ nodes_of body)
-        (evaluation.endless items q fuel (head id ty by) (M body)) (inl refl)
-        (λ around to S v t d. turns.loop_free items needs q clear keeps over waits first fuel x (record {
-          loop = id;
-          ty
-              = ty;
-          has_value = true;
-        }) to around (nodes_of body) ((node id at ty by (tree.Loop body)) ∷ nodes_of body)
-        (evaluation.body_in items q fuel (M body) (in_loop id to around)) p S v t d
-        (λ w y k. turns.body_free items needs q clear keeps over waits first fuel (K xs) (in_loop id to around) (M
-        body) (nodes_of body) (nodes_of body) fb (λ z i. i) S w y)
-        (λ w ok inner away. again.goes_on items needs q clear keeps (nodes_of body) (K (in_a_loop (record {
-          loop = id;
-          ty = ty;
-          has_value = true;
-        }) x)) (in_loop id to around) S
-        (λ z i. (t.free z (p.within z i)).1) _
-        (parts.turn_so items (again.needs_in items needs q clear keeps (nodes_of body)) q (again.clear_in items needs q
-        clear keeps (nodes_of body)) (again.keeps_in items needs q clear keeps (nodes_of body)) fuel (in_a_loop
-        (record { loop = id; ty = ty; has_value = true }) x) (in_loop id to around) body
-        (node_so items (again.needs_in items needs q clear keeps (nodes_of body)) q (again.clear_in items needs q clear
-        keeps (nodes_of body)) (again.keeps_in items needs q clear keeps (nodes_of body)) fuel body (in_a_loop
-        (record { loop = id; ty = ty; has_value = true }) x) Taken h.0
-        (again.good_in items needs q clear keeps (nodes_of body) fuel (nodes_of body) g)) h.1.0 S w
-        (again.around_in items needs q clear keeps (nodes_of body) (K (in_a_loop (record {
-          loop = id;
-          ty = ty;
-          has_value = true;
-        }) x)) (in_loop id to around) S ok (λ z e. away z (inl e)) (λ l a e z i. away z (inr (
-          l,
-          (a, (e, i)),
-        )))) (again.held_in items needs q clear keeps (nodes_of body) (entries_of S) w (λ z i. (inner z
-        i).0)))))
-    form_free (tree.While condition body) x id at ty by h g r = let rs = inside_rises (node id at ty by (tree.While
-        condition body)) (nodes_of condition ++ nodes_of body) r in
-        let p = (kinds.part_of items needs q clear keeps over waits first fuel (node id at ty by (tree.While condition
-        body)) (nodes_of condition ++ nodes_of body) r) in
-        let xs = (in_a_loop (record { loop = id; ty = ty; has_value = false }) x) in
-        let gc = good_left (nodes_of condition) (nodes_of body) g in
-        let gb = good_right (nodes_of condition) (nodes_of body) g in
-        let fc = node_free condition (in_a_loop (record { loop = id; ty = ty; has_value = false }) x) Taken h.0 gc
-        (rises_left (nodes_of condition) (nodes_of body) rs) in
-        let fb = node_free body (in_a_loop (record { loop = id; ty = ty; has_value = false }) x) Taken h.1.1.0 gb
-        (rises_right (nodes_of condition) (nodes_of body) rs) in
-        let sc = node_so items (again.needs_in items needs q clear keeps (nodes_of condition ++ nodes_of body)) q
-        (again.clear_in items needs q clear keeps (nodes_of condition ++ nodes_of body)) (again.keeps_in items
-        needs q clear keeps (nodes_of condition ++ nodes_of body)) fuel condition (in_a_loop (record {
+        loop_free items needs q clear keeps over waits first fuel x body id at ty by h g r (node_free body xs Taken h.0 g rs)
+    form_free (tree.While condition body) x id at ty by h g r =
+        let rs = inside_rises items needs q clear keeps over waits first fuel (node id at ty by (tree.While condition body)) (nodes_of condition ++ nodes_of body) r in
+        let gc = good_left items needs q clear keeps over waits first fuel (nodes_of condition) (nodes_of body) g in
+        let gb = good_right items needs q clear keeps over waits first fuel (nodes_of condition) (nodes_of body) g in
+        while_free items needs q clear keeps over waits first fuel x condition body id at ty by h g r (node_free condition (in_a_loop (record {
           loop = id;
           ty = ty;
           has_value = false;
-        }) x) Taken h.0
-        (again.good_in items needs q clear keeps (nodes_of condition ++ nodes_of body) fuel (nodes_of condition) gc) in
-        let sb = node_so items (again.needs_in items needs q clear keeps (nodes_of condition ++ nodes_of body)) q
-        (again.clear_in items needs q clear keeps (nodes_of condition ++ nodes_of body)) (again.keeps_in items
-        needs q clear keeps (nodes_of condition ++ nodes_of body)) fuel body (in_a_loop (record {
-          loop = id;
-          ty =
-              ty;
-          has_value = false;
-        }) x) Taken h.1.1.0
-        (again.good_in items needs q clear keeps (nodes_of condition ++ nodes_of body) fuel (nodes_of body) gb) in
-        kinds.scope_free items needs q clear keeps over waits first fuel (K x) (head id ty by) (shape_of items
-        (tree.While condition body) (head id ty by)) ((node id at ty by (tree.While condition body)) ∷ nodes_of
-        condition ++ nodes_of body)
-        (evaluation.while_true items q fuel (head id ty by) (M condition) (M body)) (inl refl)
-        (λ around to S v t d. turns.loop_free items needs q clear keeps over waits first fuel x (record {
-          loop = id;
-          ty
-              = ty;
-          has_value = false;
-        }) to around (nodes_of condition ++ nodes_of body) ((node id at ty by (tree.While
-        condition body)) ∷ nodes_of condition ++ nodes_of body)
-        (forms.condition items q (in_loop id to around) (M condition)
-        (evaluation.body_in items q fuel (M body) (in_loop id to around)) (forms.ends_loop items q (head id ty by) to))
-        p S v t d
-        (λ w y k. choices.condition_free items needs q clear keeps over waits first (K (in_a_loop (record {
+        }) x) Taken h.0 gc (rises_left (nodes_of condition) (nodes_of body) rs)) (node_free body
+        (in_a_loop (record { loop = id; ty = ty; has_value = false }) x) Taken h.1.1.0 gb (rises_right (nodes_of
+        condition) (nodes_of body) rs))
+    form_free (tree.WhileLet pattern scrutinee body) x id at ty by h g r =
+        let rs = inside_rises items needs q clear keeps over waits first fuel (node id at ty by (tree.WhileLet pattern scrutinee body)) (nodes_of pattern ++ nodes_of
+        scrutinee ++ nodes_of body) r in
+        let r2 = rises_left (nodes_of pattern ++ nodes_of scrutinee) (nodes_of body) rs in
+        let g2 = good_left items needs q clear keeps over waits first fuel (nodes_of pattern ++ nodes_of scrutinee) (nodes_of body) g in
+        let gs = good_right items needs q clear keeps over waits first fuel (nodes_of pattern) (nodes_of scrutinee) g2 in
+        let gb = good_right items needs q clear keeps over waits first fuel (nodes_of pattern ++ nodes_of scrutinee) (nodes_of body) g in
+        while_let_free items needs q clear keeps over waits first fuel x pattern scrutinee body id at ty by h g r (node_free scrutinee (in_a_loop (record {
           loop = id;
           ty = ty;
           has_value = false;
-        }) x)) (in_loop id to around) (M condition)
-        (evaluation.body_in items q fuel (M body) (in_loop id to around)) (forms.ends_loop items q (head id ty by) to)
-        Nothing (nodes_of condition) (nodes_of condition ++ nodes_of body) fc (numbered_left (nodes_of condition)
-        (nodes_of body)) S w
-        (rules.ready_part items needs q clear keeps over waits first (K (in_a_loop (record {
-          loop = id;
-          ty = ty;
-          has_value = false;
-        }) x)) (in_loop id to around) (nodes_of condition) (nodes_of condition ++ nodes_of body)
-        S w
-        (numbered_left (nodes_of condition) (nodes_of body)) y)
-        (λ T u e j. rules.more_free items needs q clear keeps over waits first (in_loop id to around) Nothing Nothing
-        (nodes_of condition ++ nodes_of body) (nodes_of condition ++ nodes_of body) T u (Extends T) (Extends S)
-        (evaluation.body_in items q fuel (M body) (in_loop id to around) T u)
-        (turns.body_free items needs q clear keeps over waits first fuel (K (in_a_loop (record {
-          loop = id;
-          ty = ty;
-          has_value = false;
-        }) x)) (in_loop id to around) (M body) (nodes_of body) (nodes_of condition ++ nodes_of
-        body) fb
-        (numbered_right (nodes_of condition) (nodes_of body)) T u
-        (rules.ready_after items needs q clear keeps over waits first (K (in_a_loop (record {
-          loop = id;
-          ty = ty;
-          has_value = false;
-        }) x)) (in_loop id to around) (nodes_of condition) (nodes_of body) (nodes_of condition ++
-        nodes_of body) Nothing S T w u
-        y (numbered_left (nodes_of condition) (nodes_of body)) (numbered_right (nodes_of condition) (nodes_of body))
-        (rises_apart (nodes_of condition) (nodes_of body) rs) (λ z i. absurd i)
-        (around_ext items (K (in_a_loop (record { loop = id; ty = ty; has_value = false }) x)) (in_loop id to around) S
-        T e y.ok) (λ z fr i m. j z fr i))) (λ z i. i)
-        (λ z i. absurd i) (λ exit Z i. ext_then S T Z e i))
-        (λ T u e j. turns.ends_free items needs q clear keeps over waits first fuel around (head id ty by) to (nodes_of
-        condition ++ nodes_of body) S T u d.two
-        (λ z i. j z (k z i) (λ m. rules.dest_apart items needs q clear keeps over waits first id (nodes_of condition ++
-        nodes_of body) ((node id at ty by (tree.While condition body)) ∷ nodes_of condition ++ nodes_of body) to S
-        v d p z i
-        (numbered_left (nodes_of condition) (nodes_of body) z m))) e))
-        (λ w ok inner away. again.goes_on items needs q clear keeps (nodes_of condition ++ nodes_of body) (K (in_a_loop
-        (record { loop = id; ty = ty; has_value = false }) x)) (in_loop id to around) S
-        (λ z i. (t.free z (p.within z i)).1) _
-        (steps.condition_so items (again.needs_in items needs q clear keeps (nodes_of condition ++ nodes_of body)) q
-        (again.clear_in items needs q clear keeps (nodes_of condition ++ nodes_of body)) (again.keeps_in items
-        needs q clear keeps (nodes_of condition ++ nodes_of body)) (K (in_a_loop (record {
-          loop = id;
-          ty = ty;
-          has_value = false;
-        }) x)) (in_loop id to around) (M condition)
-        (Rattle.soundness_cells.proofs.PassScopes.After items (again.needs_in items needs q clear keeps (nodes_of condition
-        ++ nodes_of body)) q (again.clear_in items needs q clear keeps (nodes_of condition ++ nodes_of body))
-        (again.keeps_in items needs q clear keeps (nodes_of condition ++ nodes_of body)) (K (in_a_loop (record {
-          loop = id;
-          ty = ty;
-          has_value = false;
-        }) x)) (in_loop id to around) Nothing (λ T. T ≡ S))
-        (evaluation.body_in items q fuel (M body) (in_loop id to around)) (forms.ends_loop items q (head id ty by) to)
-        S w sc
-        (facts.free_cell items (again.needs_in items needs q clear keeps (nodes_of condition ++ nodes_of body)) q
-        (again.clear_in items needs q clear keeps (nodes_of condition ++ nodes_of body)) (again.keeps_in items
-        needs q clear keeps (nodes_of condition ++ nodes_of body)) fuel (K (in_a_loop (record {
-          loop = id;
-          ty = ty;
-          has_value = false;
-        }) x)) condition sc
-        (nodes.or_never_none items (again.needs_in items needs q clear keeps (nodes_of condition ++ nodes_of body)) q
-        (again.clear_in items needs q clear keeps (nodes_of condition ++ nodes_of body)) (again.keeps_in items
-        needs q clear keeps (nodes_of condition ++ nodes_of body)) fuel (types.is_bool items (ty_of condition))
-        (ty_of condition)
-        (nodes.bool_none items (again.needs_in items needs q clear keeps (nodes_of condition ++ nodes_of body)) q
-        (again.clear_in items needs q clear keeps (nodes_of condition ++ nodes_of body)) (again.keeps_in items
-        needs q clear keeps (nodes_of condition ++ nodes_of body)) fuel (ty_of condition)) h.1.0)) (again.around_in
-        items needs q clear keeps (nodes_of condition ++ nodes_of body) (K (in_a_loop (record {
-          loop = id;
-          ty = ty;
-          has_value = false;
-        }) x)) (in_loop id to around) S ok (λ z e. away z (inl e)) (λ l a e z i. away z (inr (
-          l,
-          (a, (e, i)),
-        )))) (again.held_in items needs q clear keeps (nodes_of condition ++ nodes_of body) (entries_of
-        S) w (λ z i. (inner z i).0))
-        (λ u k. parts.turn_so items (again.needs_in items needs q clear keeps (nodes_of condition ++ nodes_of body)) q
-        (again.clear_in items needs q clear keeps (nodes_of condition ++ nodes_of body)) (again.keeps_in items
-        needs q clear keeps (nodes_of condition ++ nodes_of body)) fuel (in_a_loop (record {
-          loop = id;
-          ty = ty;
-          has_value = false;
-        }) x) (in_loop id to around) body sb h.1.1.1.0 S u (again.around_in items needs q clear
-        keeps (nodes_of condition ++ nodes_of body) (K (in_a_loop (record {
-          loop = id;
-          ty = ty;
-          has_value = false;
-        }) x)) (in_loop id to around) S ok (λ z e. away z (inl e)) (λ l a e z i. away z (inr (l, (a, (e, i)))))) k)
-        (λ u k. parts.ends_so items (again.needs_in items needs q clear keeps (nodes_of condition ++ nodes_of body)) q
-        (again.clear_in items needs q clear keeps (nodes_of condition ++ nodes_of body)) (again.keeps_in items
-        needs q clear keeps (nodes_of condition ++ nodes_of body)) fuel x around (head id ty by) (record {
+        }) x) (Used Use.Borrow) h.0 gs (rises_right (nodes_of pattern) (nodes_of
+        scrutinee) r2)) (node_free body (with_names (pattern_rules.entries_of pattern) (in_a_loop (record {
           loop =
               id;
           ty = ty;
           has_value = false;
-        }) refl to S u k)
-        (λ exit T u o y. y))))
-    form_free (tree.WhileLet pattern scrutinee body) x id at ty by h g r = let rs = inside_rises (node id at ty by
-        (tree.WhileLet pattern scrutinee body)) (nodes_of pattern ++ nodes_of scrutinee ++ nodes_of body) r in
-        let p = (kinds.part_of items needs q clear keeps over waits first fuel (node id at ty by (tree.WhileLet pattern
-        scrutinee body)) (nodes_of pattern ++ nodes_of scrutinee ++ nodes_of body) r) in
-        let r2 = rises_left (nodes_of pattern ++ nodes_of scrutinee) (nodes_of body) rs in
-        let g2 = good_left (nodes_of pattern ++ nodes_of scrutinee) (nodes_of body) g in
-        let gs = good_right (nodes_of pattern) (nodes_of scrutinee) g2 in
-        let gb = good_right (nodes_of pattern ++ nodes_of scrutinee) (nodes_of body) g in
-        let fs = node_free scrutinee (in_a_loop (record { loop = id; ty = ty; has_value = false }) x) (Used Use.Borrow)
-        h.0 gs (rises_right (nodes_of pattern) (nodes_of scrutinee) r2) in
-        let fb = node_free body (with_names (pattern_rules.entries_of pattern) (in_a_loop (record {
-          loop = id;
-          ty = ty;
-          has_value = false;
-        }) x)) Taken h.1.1.0 gb (rises_right (nodes_of pattern ++ nodes_of scrutinee) (nodes_of
-        body) rs) in
-        let ss = node_so items (again.needs_in items needs q clear keeps (nodes_of pattern ++ nodes_of scrutinee ++
-        nodes_of body)) q (again.clear_in items needs q clear keeps (nodes_of pattern ++ nodes_of scrutinee ++
-        nodes_of body)) (again.keeps_in items needs q clear keeps (nodes_of pattern ++ nodes_of scrutinee ++
-        nodes_of body)) fuel scrutinee (in_a_loop (record { loop = id; ty = ty; has_value = false }) x) (Used
-        Use.Borrow) h.0
-        (again.good_in items needs q clear keeps (nodes_of pattern ++ nodes_of scrutinee ++ nodes_of body) fuel
-        (nodes_of scrutinee) gs) in
-        let sb = node_so items (again.needs_in items needs q clear keeps (nodes_of pattern ++ nodes_of scrutinee ++
-        nodes_of body)) q (again.clear_in items needs q clear keeps (nodes_of pattern ++ nodes_of scrutinee ++
-        nodes_of body)) (again.keeps_in items needs q clear keeps (nodes_of pattern ++ nodes_of scrutinee ++
-        nodes_of body)) fuel body (with_names (pattern_rules.entries_of pattern) (in_a_loop (record {
-          loop = id;
-          ty
-              = ty;
-          has_value = false;
-        }) x)) Taken h.1.1.0
-        (again.good_in items needs q clear keeps (nodes_of pattern ++ nodes_of scrutinee ++ nodes_of body) fuel
-        (nodes_of body) gb) in
-        kinds.scope_free items needs q clear keeps over waits first fuel (K x) (head id ty by) (shape_of items
-        (tree.WhileLet pattern scrutinee body) (head id ty by)) ((node id at ty by (tree.WhileLet pattern scrutinee
-        body)) ∷ nodes_of pattern ++ nodes_of scrutinee ++ nodes_of body)
-        (evaluation.while_taken items q fuel (head id ty by) (M pattern) (M scrutinee) (M body)) (inl refl)
-        (λ around to S v t d. turns.loop_free items needs q clear keeps over waits first fuel x (record {
-          loop = id;
-          ty
-              = ty;
-          has_value = false;
-        }) to around (nodes_of pattern ++ nodes_of scrutinee ++ nodes_of body) ((node id at
-        ty by (tree.WhileLet pattern scrutinee body)) ∷ nodes_of pattern ++ nodes_of scrutinee ++ nodes_of body)
-        (forms.if_taken items q (head id ty by) (in_loop id to around) (M pattern) (M scrutinee)
-        (evaluation.body_in items q fuel (M body) (in_loop id to around)) (forms.ends_loop items q (head id ty by) to))
-        p S v t d
-        (λ w y k. arms.if_taken_free items needs q clear keeps over waits first (K (in_a_loop (record {
-          loop = id;
-          ty =
-              ty;
-          has_value = false;
-        }) x)) (in_loop id to around) (head id ty by) (M pattern) (M scrutinee)
-        (evaluation.body_in items q fuel (M body) (in_loop id to around)) (forms.ends_loop items q (head id ty by) to)
-        Nothing (nodes_of pattern) (nodes_of scrutinee) (nodes_of pattern ++ nodes_of scrutinee ++ nodes_of body) fs
-        (rises_apart (nodes_of pattern) (nodes_of scrutinee) r2)
-        (λ z i. numbered_left (nodes_of pattern ++ nodes_of scrutinee) (nodes_of body) z (numbered_left (nodes_of
-        pattern) (nodes_of scrutinee) z i))
-        (λ z i. numbered_left (nodes_of pattern ++ nodes_of scrutinee) (nodes_of body) z (numbered_right (nodes_of
-        pattern) (nodes_of scrutinee) z i))
-        (turns.pattern_tests items needs q clear keeps over waits first fuel pattern (place_of (M scrutinee) (in_loop
-        id to around)))
-        (turns.bound_distinct items needs q clear keeps over waits first fuel pattern (place_of (M scrutinee) (in_loop
-        id to around))
-        (rises_left (nodes_of pattern) (nodes_of scrutinee) r2))
-        (turns.bound_in items needs q clear keeps over waits first fuel pattern (place_of (M scrutinee) (in_loop id to
-        around))) S w y
-        (λ U u e j. rules.more_free items needs q clear keeps over waits first (in_loop id to around) Nothing Nothing
-        (nodes_of pattern ++ nodes_of scrutinee ++ nodes_of body) (nodes_of pattern ++ nodes_of scrutinee ++
-        nodes_of body) U u (Extends U) (OnTop S)
-        (evaluation.body_in items q fuel (M body) (in_loop id to around) U u)
-        (turns.body_free items needs q clear keeps over waits first fuel (K (with_names (pattern_rules.entries_of
-        pattern) (in_a_loop (record { loop = id; ty = ty; has_value = false }) x))) (in_loop id to around) (M body)
-        (nodes_of body) (nodes_of pattern ++ nodes_of scrutinee ++ nodes_of body) fb
-        (numbered_right (nodes_of pattern ++ nodes_of scrutinee) (nodes_of body)) U u
-        (record {
-          ok = turns.named_around items needs q clear keeps over waits first fuel pattern (in_a_loop (record {
-            loop =
-                id;
-            ty = ty;
-            has_value = false;
-          }) x) (typing.matched_in false (K (in_a_loop (record {
-            loop = id;
-            ty = ty;
-            has_value = false;
-          }) x)) scrutinee) (ty_of scrutinee) h.1.0.1
-              (in_loop id to around) U (place_of (M scrutinee) (in_loop id to around))
-              (around_top items (K (in_a_loop (record { loop = id; ty = ty; has_value = false }) x)) (in_loop id to
-              around) S U e.0 y.ok) e.1;
-          free = λ z i. j z (y.free z (numbered_right (nodes_of pattern ++ nodes_of scrutinee) (nodes_of body) z i))
-              (λ m. rises_apart (nodes_of pattern ++ nodes_of scrutinee) (nodes_of body) rs z m i);
-          jumps = λ z i. let c = y.jumps z i in (
-            j z c.0 (λ m. c.1 (numbered_left (nodes_of pattern ++ nodes_of
-                scrutinee) (nodes_of body) z m)),
-            λ m. c.1 (numbered_right (nodes_of pattern ++ nodes_of scrutinee) (nodes_of body) z m),
-          );
-          twos = y.twos;
-        })) (λ z i. i) (λ z i. absurd i) (λ exit Z i. top_then S U Z e.0 i))
-        (λ T u e j. turns.ends_free items needs q clear keeps over waits first fuel around (head id ty by) to (nodes_of
-        pattern ++ nodes_of scrutinee ++ nodes_of body) S T u d.two
-        (λ z i. j z (k z i) (λ m. rules.dest_apart items needs q clear keeps over waits first id (nodes_of pattern ++
-        nodes_of scrutinee ++ nodes_of body) ((node id at ty by (tree.WhileLet pattern scrutinee body)) ∷ nodes_of
-        pattern ++ nodes_of scrutinee ++ nodes_of body) to S v d p z i
-        (numbered_left (nodes_of pattern ++ nodes_of scrutinee) (nodes_of body) z (numbered_right (nodes_of pattern)
-        (nodes_of scrutinee) z m)))) e))
-        (λ w ok inner away. again.goes_on items needs q clear keeps (nodes_of pattern ++ nodes_of scrutinee ++ nodes_of
-        body) (K (in_a_loop (record { loop = id; ty = ty; has_value = false }) x)) (in_loop id to around) S
-        (λ z i. (t.free z (p.within z i)).1) _
-        (branches.if_taken_so items (again.needs_in items needs q clear keeps (nodes_of pattern ++ nodes_of scrutinee
-        ++ nodes_of body)) q (again.clear_in items needs q clear keeps (nodes_of pattern ++ nodes_of scrutinee ++
-        nodes_of body)) (again.keeps_in items needs q clear keeps (nodes_of pattern ++ nodes_of scrutinee ++
-        nodes_of body)) (K (in_a_loop (record { loop = id; ty = ty; has_value = false }) x)) (in_loop id to around)
-        Nothing (head id ty by) (M pattern)
-        (M scrutinee) (evaluation.body_in items q fuel (M body) (in_loop id to around))
-        (forms.ends_loop items q (head id ty by) to) S w ss
-        (facts.pattern_here items (again.needs_in items needs q clear keeps (nodes_of pattern ++ nodes_of scrutinee ++
-        nodes_of body)) q (again.clear_in items needs q clear keeps (nodes_of pattern ++ nodes_of scrutinee ++
-        nodes_of body)) (again.keeps_in items needs q clear keeps (nodes_of pattern ++ nodes_of scrutinee ++
-        nodes_of body)) fuel pattern (typing.matched_in false (K (in_a_loop (record {
-          loop = id;
-          ty = ty;
-          has_value
-              = false;
-        }) x)) scrutinee) (ty_of scrutinee) h.1.0.1
-        (again.good_in items needs q clear keeps (nodes_of pattern ++ nodes_of scrutinee ++ nodes_of body) fuel
-        (nodes_of pattern)
-        (good_left (nodes_of pattern) (nodes_of scrutinee) g2)) (place_of (M scrutinee) (in_loop id to around))).bound
-        (λ T u wide bound k. parts.turn_so items (again.needs_in items needs q clear keeps (nodes_of pattern ++
-        nodes_of scrutinee ++ nodes_of body)) q (again.clear_in items needs q clear keeps (nodes_of pattern ++
-        nodes_of scrutinee ++ nodes_of body)) (again.keeps_in items needs q clear keeps (nodes_of pattern ++
-        nodes_of scrutinee ++ nodes_of body)) fuel (with_names (pattern_rules.entries_of pattern) (in_a_loop
-        (record { loop = id; ty = ty; has_value = false }) x)) (in_loop id to around) body sb h.1.1.1.0 T u
-        (facts.named_ok items (again.needs_in items needs q clear keeps (nodes_of pattern ++ nodes_of scrutinee ++
-        nodes_of body)) q (again.clear_in items needs q clear keeps (nodes_of pattern ++ nodes_of scrutinee ++
-        nodes_of body)) (again.keeps_in items needs q clear keeps (nodes_of pattern ++ nodes_of scrutinee ++
-        nodes_of body)) fuel pattern (in_a_loop (record { loop = id; ty = ty; has_value = false }) x) (in_loop id
-        to around) T (place_of (M scrutinee) (in_loop id to around))
-        (facts.pattern_here items (again.needs_in items needs q clear keeps (nodes_of pattern ++ nodes_of scrutinee ++
-        nodes_of body)) q (again.clear_in items needs q clear keeps (nodes_of pattern ++ nodes_of scrutinee ++
-        nodes_of body)) (again.keeps_in items needs q clear keeps (nodes_of pattern ++ nodes_of scrutinee ++
-        nodes_of body)) fuel pattern (typing.matched_in false (K (in_a_loop (record {
-          loop = id;
-          ty = ty;
-          has_value
-              = false;
-        }) x)) scrutinee) (ty_of scrutinee) h.1.0.1
-        (again.good_in items needs q clear keeps (nodes_of pattern ++ nodes_of scrutinee ++ nodes_of body) fuel
-        (nodes_of pattern)
-        (good_left (nodes_of pattern) (nodes_of scrutinee) g2)) (place_of (M scrutinee) (in_loop id to around)))
-        (Rattle.soundness_cells.proofs.PassScopes.around_more items (again.needs_in items needs q clear keeps (nodes_of
-        pattern ++ nodes_of scrutinee ++ nodes_of body)) (K (in_a_loop (record {
-          loop = id;
-          ty = ty;
-          has_value =
-              false;
-        }) x))
-        (in_loop id to around) S T wide (again.around_in items needs q clear keeps (nodes_of pattern ++ nodes_of
-        scrutinee ++ nodes_of body) (K (in_a_loop (record { loop = id; ty = ty; has_value = false }) x)) (in_loop
-        id to around) S ok (λ z e. away z (inl e)) (λ l a e z i. away z (inr (l, (a, (e, i))))))) bound) k)
-        (λ u k. parts.ends_so items (again.needs_in items needs q clear keeps (nodes_of pattern ++ nodes_of scrutinee
-        ++ nodes_of body)) q (again.clear_in items needs q clear keeps (nodes_of pattern ++ nodes_of scrutinee ++
-        nodes_of body)) (again.keeps_in items needs q clear keeps (nodes_of pattern ++ nodes_of scrutinee ++
-        nodes_of body)) fuel x around (head id ty by) (record { loop = id; ty = ty; has_value = false }) refl to S
-        u k)
-        (λ key z. absurd z) (again.around_in items needs q clear keeps (nodes_of pattern ++ nodes_of scrutinee ++
-        nodes_of body) (K (in_a_loop (record { loop = id; ty = ty; has_value = false }) x)) (in_loop id to around)
-        S ok (λ z e. away z (inl e)) (λ l a e z i. away z (inr (l, (a, (e, i)))))) (again.held_in items needs q
-        clear keeps (nodes_of pattern ++ nodes_of scrutinee ++ nodes_of body) (entries_of S) w (λ z i. (inner z
-        i).0)))))
+        }) x)) Taken h.1.1.0 gb (rises_right (nodes_of pattern ++ nodes_of
+        scrutinee) (nodes_of body) rs))
     form_free (tree.Break loop value) x id at ty by h g r = let l = some_holds (loop_with loop x.loops) (λ a.
         typing.carries (K x) a value) h.0 in
         let p = (kinds.part_of items needs q clear keeps over waits first fuel (node id at ty by (tree.Break loop
@@ -1274,7 +483,7 @@ module _ {V : Type 0} (items : ItemTable) (needs : ℕ → Bool) (q : Effects V)
         (head id ty by) (Mi value)
         (loop_destination loop around.loops) (DestKey to) (nodes_if_any value) ((node id at ty by (tree.Break loop
         value)) ∷ nodes_if_any value) S v refl
-        (carried_free value x l.0 l.1.1 g (inside_rises (node id at ty by (tree.Break loop value)) (nodes_if_any value)
+        (carried_free value x l.0 l.1.1 g (inside_rises items needs q clear keeps over waits first fuel (node id at ty by (tree.Break loop value)) (nodes_if_any value)
         r)) p.within t
         (λ z i. inr (loop, (l.0, (l.1.0, i)))) (t.twos.1 loop l.0 l.1.0))
     form_free (tree.Continue loop) x id at ty by h g r = kinds.value_free items needs q clear keeps over waits first
@@ -1290,7 +499,7 @@ module _ {V : Type 0} (items : ItemTable) (needs : ℕ → Bool) (q : Effects V)
         id ty by) (Mi value)
         around.answer (DestKey to) (nodes_if_any value) ((node id at ty by (tree.Return value)) ∷ nodes_if_any value) S
         v refl
-        (returned_free value x h.0 g (inside_rises (node id at ty by (tree.Return value)) (nodes_if_any value) r))
+        (returned_free value x h.0 g (inside_rises items needs q clear keeps over waits first fuel (node id at ty by (tree.Return value)) (nodes_if_any value) r))
         p.within t
         (λ z i. inl i) t.twos.0)
     form_free form x id at ty by h g r = absurd (false≢true h)
@@ -1306,9 +515,9 @@ module _ {V : Type 0} (items : ItemTable) (needs : ℕ → Bool) (q : Effects V)
         (
           refl,
           (
-            node_free first_ x (Passed ty) h.0 (good_left (nodes_of first_) (nodes_among rest) g)
+            node_free first_ x (Passed ty) h.0 (good_left items needs q clear keeps over waits first fuel (nodes_of first_) (nodes_among rest) g)
                 (rises_left (nodes_of first_) (nodes_among rest) r),
-            args_free tys rest x h.1 (good_right (nodes_of first_) (nodes_among rest) g)
+            args_free tys rest x h.1 (good_right items needs q clear keeps over waits first fuel (nodes_of first_) (nodes_among rest) g)
                 (rises_right (nodes_of first_) (nodes_among rest) r),
           ),
         ),
@@ -1326,9 +535,9 @@ module _ {V : Type 0} (items : ItemTable) (needs : ℕ → Bool) (q : Effects V)
         (
           refl,
           (
-            node_free first_ x (Wanted ty) h.0 (good_left (nodes_of first_) (nodes_among rest) g)
+            node_free first_ x (Wanted ty) h.0 (good_left items needs q clear keeps over waits first fuel (nodes_of first_) (nodes_among rest) g)
                 (rises_left (nodes_of first_) (nodes_among rest) r),
-            parts_free tys rest x h.1 (good_right (nodes_of first_) (nodes_among rest) g)
+            parts_free tys rest x h.1 (good_right items needs q clear keeps over waits first fuel (nodes_of first_) (nodes_among rest) g)
                 (rises_right (nodes_of first_) (nodes_among rest) r),
           ),
         ),
@@ -1345,9 +554,9 @@ module _ {V : Type 0} (items : ItemTable) (needs : ℕ → Bool) (q : Effects V)
         (
           refl,
           (
-            node_free first_ x (Wanted ty) h.0 (good_left (nodes_of first_) (nodes_among rest) g)
+            node_free first_ x (Wanted ty) h.0 (good_left items needs q clear keeps over waits first fuel (nodes_of first_) (nodes_among rest) g)
                 (rises_left (nodes_of first_) (nodes_among rest) r),
-            elements_free ty rest x h.1 (good_right (nodes_of first_) (nodes_among rest) g)
+            elements_free ty rest x h.1 (good_right items needs q clear keeps over waits first fuel (nodes_of first_) (nodes_among rest) g)
                 (rises_right (nodes_of first_) (nodes_among rest) r),
           ),
         ),
@@ -1365,9 +574,9 @@ module _ {V : Type 0} (items : ItemTable) (needs : ℕ → Bool) (q : Effects V)
         (
           refl,
           (
-            node_free first_ x Taken h.0 (good_left (nodes_of first_) (nodes_among rest) g)
+            node_free first_ x Taken h.0 (good_left items needs q clear keeps over waits first fuel (nodes_of first_) (nodes_among rest) g)
                 (rises_left (nodes_of first_) (nodes_among rest) r),
-            captures_free tys rest x h.1.1 (good_right (nodes_of first_) (nodes_among rest) g)
+            captures_free tys rest x h.1.1 (good_right items needs q clear keeps over waits first fuel (nodes_of first_) (nodes_among rest) g)
                 (rises_right (nodes_of first_) (nodes_among rest) r),
           ),
         ),
@@ -1386,9 +595,9 @@ module _ {V : Type 0} (items : ItemTable) (needs : ℕ → Bool) (q : Effects V)
             (
               refl,
               (
-                node_free value x (Wanted t.0) t.1.1 (good_left (nodes_of value) (nodes_of_fields rest) g)
+                node_free value x (Wanted t.0) t.1.1 (good_left items needs q clear keeps over waits first fuel (nodes_of value) (nodes_of_fields rest) g)
                     (rises_left (nodes_of value) (nodes_of_fields rest) r),
-                fields_free tys rest x h.1 (good_right (nodes_of value) (nodes_of_fields rest) g)
+                fields_free tys rest x h.1 (good_right items needs q clear keeps over waits first fuel (nodes_of value) (nodes_of_fields rest) g)
                     (rises_right (nodes_of value) (nodes_of_fields rest) r),
               ),
             ),
@@ -1452,7 +661,7 @@ module _ {V : Type 0} (items : ItemTable) (needs : ℕ → Bool) (q : Effects V)
     statements_free : (ns : Nodes) (x : Standpoint) (rest : Context → Claim) →
         Holds (typing.statements (K x) ns rest) → Good (nodes_among ns) → Rises (nodes_among ns) →
         (around : LoopsAndGuards) (S T : Scopes) (v : V) → Top S T → Ready (K x) around (nodes_among ns) T v →
-        Shown over (Post around Nothing (nodes_among ns) T v (statements.Behind items needs q clear keeps over waits
+        Shown over (Post items needs q clear keeps over waits first fuel around Nothing (nodes_among ns) T v (statements.Behind items needs q clear keeps over waits
         first S (K (behind x ns)) around))
         (forms.statements items q around (Ms ns) T v)
     statements_free no_node x rest h g r around S T v k t = ((k, t.ok), λ z fr i m. fr)
@@ -1467,7 +676,7 @@ module _ {V : Type 0} (items : ItemTable) (needs : ℕ → Bool) (q : Effects V)
         ((M (node id at ty by form)).evaluate around false (Into (M (node id at ty by form)).head.id) T v)
         (forms.statements items q around (Ms more))
         (statement_free form x id at ty by h.1.0
-        (good_left (node id at ty by form ∷ nodes_in form) (nodes_among more) g).1
+        (good_left items needs q clear keeps over waits first fuel (node id at ty by form ∷ nodes_in form) (nodes_among more) g).1
         (rises_left (node id at ty by form ∷ nodes_in form) (nodes_among more) r) around S T v k
         (rules.ready_part items needs q clear keeps over waits first (K x) around (node id at ty by form ∷ nodes_in
         form)
@@ -1482,7 +691,7 @@ module _ {V : Type 0} (items : ItemTable) (needs : ℕ → Bool) (q : Effects V)
         x) more)) around)
         (forms.statements items q around (Ms more) U u)
         (statements_free more (with_names (typing.entries_in form) x) rest h.1.1
-        (good_right (node id at ty by form ∷ nodes_in form) (nodes_among more) g)
+        (good_right items needs q clear keeps over waits first fuel (node id at ty by form ∷ nodes_in form) (nodes_among more) g)
         (rises_right (node id at ty by form ∷ nodes_in form) (nodes_among more) r) around S U u e.0 (record {
           ok = e.1;
           free = λ z i. j z (t.free z (numbered_right (node id at ty by form ∷ nodes_in form) (nodes_among more) z i))
@@ -1510,7 +719,7 @@ module _ {V : Type 0} (items : ItemTable) (needs : ℕ → Bool) (q : Effects V)
         Holds (typing.statement (K x) form) → Good (nodes_in form) → Rises (node id at ty by form ∷ nodes_in form) →
         (around : LoopsAndGuards) (S T : Scopes) (v : V) → Top S T →
         Ready (K x) around (node id at ty by form ∷ nodes_in form) T v →
-        Shown over (Post around Nothing (node id at ty by form ∷ nodes_in form) T v
+        Shown over (Post items needs q clear keeps over waits first fuel around Nothing (node id at ty by form ∷ nodes_in form) T v
         (statements.Behind items needs q clear keeps over waits first S (K (with_names (typing.entries_in form) x))
         around))
         ((Of form id ty by).evaluate around false (Into (Of form id ty by).head.id) T v)
@@ -1526,10 +735,10 @@ module _ {V : Type 0} (items : ItemTable) (needs : ℕ → Bool) (q : Effects V)
         fuel pattern (whole_local 0) z i))) T v
         (turns.top_deep items needs q clear keeps over waits first fuel S T k))
     statement_free (tree.Let pattern (present value)) x id at ty by h g r around S T v k t =
-        let rs = inside_rises (node id at ty by (tree.Let pattern (present value))) (nodes_of pattern ++ nodes_of
+        let rs = inside_rises items needs q clear keeps over waits first fuel (node id at ty by (tree.Let pattern (present value))) (nodes_of pattern ++ nodes_of
         value) r in
         turns.let_free items needs q clear keeps over waits first fuel pattern value x id at ty by h.1 around S T v k t
-        (node_free value x (typing.as_initialiser pattern) h.0 (good_right (nodes_of pattern) (nodes_of value) g)
+        (node_free value x (typing.as_initialiser pattern) h.0 (good_right items needs q clear keeps over waits first fuel (nodes_of pattern) (nodes_of value) g)
         (rises_right (nodes_of pattern) (nodes_of value) rs)) rs
     statement_free (tree.Evaluate expression) x id at ty by h g r around S T v k t =
         rules.more_free items needs q clear keeps over waits first around Nothing Nothing (nodes_of expression)
@@ -1539,7 +748,7 @@ module _ {V : Type 0} (items : ItemTable) (needs : ℕ → Bool) (q : Effects V)
         (statements.evaluating_free items needs q clear keeps over waits first (K x) around (head id ty by) (M
         expression) (nodes_of expression)
         (node_free expression x Taken h g
-        (inside_rises (node id at ty by (tree.Evaluate expression)) (nodes_of expression) r)) T v
+        (inside_rises items needs q clear keeps over waits first fuel (node id at ty by (tree.Evaluate expression)) (nodes_of expression) r)) T v
         (rules.ready_part items needs q clear keeps over waits first (K x) around (nodes_of expression)
         (node id at ty by (tree.Evaluate expression) ∷ nodes_of expression) T v (λ z i. inr i) t)) (λ z i. inr i)
         (λ z i. absurd i) (λ exit U e. (
@@ -1563,9 +772,9 @@ module _ {V : Type 0} (items : ItemTable) (needs : ℕ → Bool) (q : Effects V)
           refl,
           (
             arm_free form x m want id at ty by h.0
-                (good_left (node id at ty by form ∷ nodes_in form) (nodes_among rest) g).1
+                (good_left items needs q clear keeps over waits first fuel (node id at ty by form ∷ nodes_in form) (nodes_among rest) g).1
                 (rises_left (node id at ty by form ∷ nodes_in form) (nodes_among rest) r) around matched all,
-            arms_free rest x m want h.1 (good_right (node id at ty by form ∷ nodes_in form) (nodes_among rest) g)
+            arms_free rest x m want h.1 (good_right items needs q clear keeps over waits first fuel (node id at ty by form ∷ nodes_in form) (nodes_among rest) g)
                 (rises_right (node id at ty by form ∷ nodes_in form) (nodes_among rest) r) around matched all,
           ),
         ),
@@ -1578,10 +787,10 @@ module _ {V : Type 0} (items : ItemTable) (needs : ℕ → Bool) (q : Effects V)
         arms.ArmFree items needs q clear keeps over waits first (K x) around matched (node id at ty by form ∷ nodes_in
         form) all (Of form id ty by)
     arm_free (tree.Arm pattern guard body) x m want id at ty by h g r around matched all =
-        let rs = inside_rises (node id at ty by (tree.Arm pattern guard body))
+        let rs = inside_rises items needs q clear keeps over waits first fuel (node id at ty by (tree.Arm pattern guard body))
         ((nodes_of pattern ++ nodes_if_any guard) ++ nodes_of body) r in
         let r2 = rises_left (nodes_of pattern ++ nodes_if_any guard) (nodes_of body) rs in
-        let g2 = good_left (nodes_of pattern ++ nodes_if_any guard) (nodes_of body) g in
+        let g2 = good_left items needs q clear keeps over waits first fuel (nodes_of pattern ++ nodes_if_any guard) (nodes_of body) g in
         let xb = with_names (pattern_rules.entries_of pattern) x in
         let xg = with_names (in_guard (pattern_rules.entries_of pattern)) x in
         λ to otherwise S v t d two roots inside other.
@@ -1589,9 +798,9 @@ module _ {V : Type 0} (items : ItemTable) (needs : ℕ → Bool) (q : Effects V)
         (Mi guard) (M body) matched to otherwise
         (nodes_of pattern) (nodes_if_any guard) (nodes_of body)
         (node id at ty by (tree.Arm pattern guard body) ∷ (nodes_of pattern ++ nodes_if_any guard) ++ nodes_of body) all
-        (guard_free guard xg h.1.1.1.0 (good_right (nodes_of pattern) (nodes_if_any guard) g2)
+        (guard_free guard xg h.1.1.1.0 (good_right items needs q clear keeps over waits first fuel (nodes_of pattern) (nodes_if_any guard) g2)
         (rises_right (nodes_of pattern) (nodes_if_any guard) r2))
-        (node_free body xb Taken h.1.1.1.1.0 (good_right (nodes_of pattern ++ nodes_if_any guard) (nodes_of body) g)
+        (node_free body xb Taken h.1.1.1.1.0 (good_right items needs q clear keeps over waits first fuel (nodes_of pattern ++ nodes_if_any guard) (nodes_of body) g)
         (rises_right (nodes_of pattern ++ nodes_if_any guard) (nodes_of body) rs))
         (turns.bound_distinct items needs q clear keeps over waits first fuel pattern matched (rises_left (nodes_of
         pattern) (nodes_if_any guard) r2))
@@ -1626,7 +835,7 @@ module _ {V : Type 0} (items : ItemTable) (needs : ℕ → Bool) (q : Effects V)
       Rises (nodes_among stmts ++ nodes_if_any tail) → (ns : List Node) →
       Part id (nodes_among stmts ++ nodes_if_any tail) ns → (around : LoopsAndGuards) (own : Bool) (to : Destination)
       (S : Scopes) (v : V) → Ready (K x) around ns S v → DestOk id ns to S v →
-      Shown over (Post around (DestKey to) ns S v (Extends S))
+      Shown over (Post items needs q clear keeps over waits first fuel around (DestKey to) ns S v (Extends S))
       (forms.block items q (head id ty by) (Ms stmts) (Mi tail) around own to S v)
   block_in stmts tail x id ty by h g rs ns p around own to S v t d =
       let ps = kinds.part_left items needs q clear keeps over waits first fuel id (nodes_among stmts) (nodes_if_any
@@ -1641,7 +850,7 @@ module _ {V : Type 0} (items : ItemTable) (needs : ℕ → Bool) (q : Effects V)
       (with_scope id own S) v
       (forms.statements items q around (Ms stmts) (with_scope id own S) v)
       (forms.tail_of items q (head id ty by) (Mi tail) around to)
-      (statements_free stmts x (λ d. typing.tail_of d tail) h.0 (good_left (nodes_among stmts) (nodes_if_any tail) g)
+      (statements_free stmts x (λ d. typing.tail_of d tail) h.0 (good_left items needs q clear keeps over waits first fuel (nodes_among stmts) (nodes_if_any tail) g)
       (rises_left (nodes_among stmts) (nodes_if_any tail) rs) around S (with_scope id own S) v (ext_same S)
       (rules.ready_opened items needs q clear keeps over waits first (K x) around (nodes_among stmts) id own S v
       (rules.ready_part items needs q clear keeps over waits first (K x) around (nodes_among stmts) ns S v ps.within
@@ -1652,7 +861,7 @@ module _ {V : Type 0} (items : ItemTable) (needs : ℕ → Bool) (q : Effects V)
       ns S T w k.0
       (tail_ready tail (behind x stmts) (facts.behind_holds items (λ key. false) q (again.no_clear items needs q
       clear keeps) (again.keeps_none items needs q clear keeps) fuel stmts x (λ d. typing.tail_of d tail) h.0)
-      (good_right (nodes_among stmts) (nodes_if_any tail) g) (rises_right (nodes_among stmts) (nodes_if_any tail) rs)
+      (good_right items needs q clear keeps over waits first fuel (nodes_among stmts) (nodes_if_any tail) g) (rises_right (nodes_among stmts) (nodes_if_any tail) rs)
       x (facts.same_loops items (λ key. false) q (again.no_clear items needs q clear keeps) (again.keeps_none items
       needs q clear keeps) fuel stmts x) (facts.same_answer items (λ key. false) q (again.no_clear items needs q
       clear keeps) (again.keeps_none items needs q clear keeps) fuel stmts x) around id (nodes_among stmts) ns

@@ -1,5 +1,5 @@
 -- The tests and the names of a pattern stand in cells of its own nodes, and no two names in one.
-use Rattle.std.proofs.Common.{◌≡◌, ◌⊎◌, inl, inr, ℕ, suc, Bool, true, false, List, [], ◌∷◌, ◌++◌, Option, refl, ap, sym, ◌∙◌, subst}
+use Rattle.std.proofs.Common.{◌≡◌, ◌⊎◌, inl, inr, ℕ, suc, true, false, List, [], ◌∷◌, ◌++◌, refl, sym, ◌∙◌, subst}
 use Rattle.std.proofs.lemmas.Bool.{false≢true}
 use Rattle.mir_ty.specs.ItemTable.{ItemTable}
 use Rattle.store_model.specs.Places.Place.{Step, ToPart, ToField, Place}
@@ -58,60 +58,13 @@ module _ (items : ItemTable) where
 
     of_form : (form : Form) (n : Node) (h : NodeHead) (place : Place) → number_of n ≡ h.id →
         NamesOf (n ∷ nodes_in form) ((shape_of items form h).bindings place)
-    of_form (tree.Number value) n h place e = no_name _
-    of_form (tree.Truth value) n h place e = no_name _
-    of_form tree.UnitValue n h place e = no_name _
-    of_form (tree.Variable key) n h place e = no_name _
-    of_form (tree.Captured closure part name) n h place e = no_name _
-    of_form (tree.Field base part) n h place e = no_name _
-    of_form (tree.Index base index length) n h place e = no_name _
-    of_form (tree.Deref base) n h place e = no_name _
-    of_form (tree.Not operand) n h place e = no_name _
-    of_form (tree.Negate operand) n h place e = no_name _
-    of_form (tree.Arithmetic operator left right) n h place e = no_name _
-    of_form (tree.Comparison operator left right) n h place e = no_name _
-    of_form (tree.And left right) n h place e = no_name _
-    of_form (tree.Or left right) n h place e = no_name _
-    of_form (tree.Assign target value) n h place e = no_name _
-    of_form (tree.Call body args) n h place e = no_name _
-    of_form (tree.MethodCall body receiver args) n h place e = no_name _
-    of_form (tree.VirtualCall trait_no method receiver args) n h place e = no_name _
-    of_form (tree.ClosureCall body callee args) n h place e = no_name _
-    of_form (tree.Make adt variant fields) n h place e = no_name _
-    of_form (tree.Tuple parts) n h place e = no_name _
-    of_form (tree.Array elements) n h place e = no_name _
-    of_form (tree.Closure closure captures) n h place e = no_name _
-    of_form (tree.NewBox content) n h place e = no_name _
-    of_form (tree.Print operand) n h place e = no_name _
-    of_form tree.Ask n h place e = no_name _
-    of_form (tree.DropValue operand) n h place e = no_name _
-    of_form (tree.Forget operand) n h place e = no_name _
-    of_form tree.Panic n h place e = no_name _
-    of_form (tree.Borrow unique base) n h place e = no_name _
-    of_form (tree.Unsize trait_no operand) n h place e = no_name _
-    of_form (tree.Block statements tail) n h place e = no_name _
-    of_form (tree.Let pattern initialiser) n h place e = no_name _
-    of_form (tree.Evaluate expression) n h place e = no_name _
-    of_form (tree.If condition consequent otherwise) n h place e = no_name _
-    of_form (tree.IfLet pattern scrutinee consequent otherwise) n h place e = no_name _
-    of_form (tree.Match scrutinee arms) n h place e = no_name _
-    of_form (tree.Arm pattern guard body) n h place e = no_name _
-    of_form (tree.Loop body) n h place e = no_name _
-    of_form (tree.While condition body) n h place e = no_name _
-    of_form (tree.WhileLet pattern scrutinee body) n h place e = no_name _
-    of_form (tree.Break loop value) n h place e = no_name _
-    of_form (tree.Continue loop) n h place e = no_name _
-    of_form (tree.Return value) n h place e = no_name _
-    of_form tree.Wildcard n h place e = no_name _
     of_form (tree.Binding name) n h place e = a_name n [] _ [] e (no_name [])
-    of_form (tree.NumberPattern value) n h place e = no_name _
-    of_form (tree.TruthPattern value) n h place e = no_name _
     of_form (tree.StructPattern fields) n h place e = passed n _ _ (of_fields fields ToPart place)
     of_form (tree.VariantPattern variant is_test fields) n h place e =
         passed n _ _ (of_fields fields (ToField variant) place)
     of_form (tree.TuplePattern parts) n h place e = passed n _ _ (of_nodes parts 0 place)
     of_form (tree.ArrayPattern elements) n h place e = passed n _ _ (of_nodes elements 0 place)
-    of_form (tree.OrPattern alternatives) n h place e = no_name _
+    of_form other n h place e = no_name _
 
     of_fields : (fields : Fields) (step : ℕ → Step) (place : Place) →
         NamesOf (nodes_of_fields fields) ((in_fields items fields step).bindings place)
@@ -142,52 +95,6 @@ module _ (items : ItemTable) where
 
     tests_of : (form : Form) (n : Node) (h : NodeHead) (place : Place) (z : ℕ) → number_of n ≡ h.id →
         TestsKey ((shape_of items form h).tests place) z → Numbered (n ∷ nodes_in form) z
-    tests_of (tree.Number value) n h place z e k = absurd k
-    tests_of (tree.Truth value) n h place z e k = absurd k
-    tests_of tree.UnitValue n h place z e k = absurd k
-    tests_of (tree.Variable key) n h place z e k = absurd k
-    tests_of (tree.Captured closure part name) n h place z e k = absurd k
-    tests_of (tree.Field base part) n h place z e k = absurd k
-    tests_of (tree.Index base index length) n h place z e k = absurd k
-    tests_of (tree.Deref base) n h place z e k = absurd k
-    tests_of (tree.Not operand) n h place z e k = absurd k
-    tests_of (tree.Negate operand) n h place z e k = absurd k
-    tests_of (tree.Arithmetic operator left right) n h place z e k = absurd k
-    tests_of (tree.Comparison operator left right) n h place z e k = absurd k
-    tests_of (tree.And left right) n h place z e k = absurd k
-    tests_of (tree.Or left right) n h place z e k = absurd k
-    tests_of (tree.Assign target value) n h place z e k = absurd k
-    tests_of (tree.Call body args) n h place z e k = absurd k
-    tests_of (tree.MethodCall body receiver args) n h place z e k = absurd k
-    tests_of (tree.VirtualCall trait_no method receiver args) n h place z e k = absurd k
-    tests_of (tree.ClosureCall body callee args) n h place z e k = absurd k
-    tests_of (tree.Make adt variant fields) n h place z e k = absurd k
-    tests_of (tree.Tuple parts) n h place z e k = absurd k
-    tests_of (tree.Array elements) n h place z e k = absurd k
-    tests_of (tree.Closure closure captures) n h place z e k = absurd k
-    tests_of (tree.NewBox content) n h place z e k = absurd k
-    tests_of (tree.Print operand) n h place z e k = absurd k
-    tests_of tree.Ask n h place z e k = absurd k
-    tests_of (tree.DropValue operand) n h place z e k = absurd k
-    tests_of (tree.Forget operand) n h place z e k = absurd k
-    tests_of tree.Panic n h place z e k = absurd k
-    tests_of (tree.Borrow unique base) n h place z e k = absurd k
-    tests_of (tree.Unsize trait_no operand) n h place z e k = absurd k
-    tests_of (tree.Block statements tail) n h place z e k = absurd k
-    tests_of (tree.Let pattern initialiser) n h place z e k = absurd k
-    tests_of (tree.Evaluate expression) n h place z e k = absurd k
-    tests_of (tree.If condition consequent otherwise) n h place z e k = absurd k
-    tests_of (tree.IfLet pattern scrutinee consequent otherwise) n h place z e k = absurd k
-    tests_of (tree.Match scrutinee arms) n h place z e k = absurd k
-    tests_of (tree.Arm pattern guard body) n h place z e k = absurd k
-    tests_of (tree.Loop body) n h place z e k = absurd k
-    tests_of (tree.While condition body) n h place z e k = absurd k
-    tests_of (tree.WhileLet pattern scrutinee body) n h place z e k = absurd k
-    tests_of (tree.Break loop value) n h place z e k = absurd k
-    tests_of (tree.Continue loop) n h place z e k = absurd k
-    tests_of (tree.Return value) n h place z e k = absurd k
-    tests_of tree.Wildcard n h place z e k = absurd k
-    tests_of (tree.Binding name) n h place z e k = absurd k
     tests_of (tree.NumberPattern value) n h place z e (inl k) = inl (e ∙ k)
     tests_of (tree.NumberPattern value) n h place z e (inr k) = absurd k
     tests_of (tree.TruthPattern value) n h place z e (inl k) = inl (e ∙ k)
@@ -202,6 +109,7 @@ module _ (items : ItemTable) where
     tests_of (tree.ArrayPattern elements) n h place z e k = inr (tests_of_parts elements 0 place z k)
     tests_of (tree.OrPattern alternatives) n h place z e (inl k) = inr (tests_of_any alternatives place z k)
     tests_of (tree.OrPattern alternatives) n h place z e (inr k) = absurd k
+    tests_of other n h place z e k = absurd k
 
     tests_of_fields : (fields : Fields) (step : ℕ → Step) (place : Place) (z : ℕ) →
         TestsKey ((in_fields items fields step).tests place) z → Numbered (nodes_of_fields fields) z
@@ -228,60 +136,9 @@ module _ (items : ItemTable) where
   -- a pattern that is one name binds that one
   single_of : (form : Form) (h : NodeHead) (place : Place) (z : ℕ) → (shape_of items form h).is_binding ≡ true →
       BoundKey ((shape_of items form h).bindings place) z → h.id ≡ z
-  single_of (tree.Number value) h place z e k = absurd (false≢true e)
-  single_of (tree.Truth value) h place z e k = absurd (false≢true e)
-  single_of tree.UnitValue h place z e k = absurd (false≢true e)
-  single_of (tree.Variable key) h place z e k = absurd (false≢true e)
-  single_of (tree.Captured closure part name) h place z e k = absurd (false≢true e)
-  single_of (tree.Field base part) h place z e k = absurd (false≢true e)
-  single_of (tree.Index base index length) h place z e k = absurd (false≢true e)
-  single_of (tree.Deref base) h place z e k = absurd (false≢true e)
-  single_of (tree.Not operand) h place z e k = absurd (false≢true e)
-  single_of (tree.Negate operand) h place z e k = absurd (false≢true e)
-  single_of (tree.Arithmetic operator left right) h place z e k = absurd (false≢true e)
-  single_of (tree.Comparison operator left right) h place z e k = absurd (false≢true e)
-  single_of (tree.And left right) h place z e k = absurd (false≢true e)
-  single_of (tree.Or left right) h place z e k = absurd (false≢true e)
-  single_of (tree.Assign target value) h place z e k = absurd (false≢true e)
-  single_of (tree.Call body args) h place z e k = absurd (false≢true e)
-  single_of (tree.MethodCall body receiver args) h place z e k = absurd (false≢true e)
-  single_of (tree.VirtualCall trait_no method receiver args) h place z e k = absurd (false≢true e)
-  single_of (tree.ClosureCall body callee args) h place z e k = absurd (false≢true e)
-  single_of (tree.Make adt variant fields) h place z e k = absurd (false≢true e)
-  single_of (tree.Tuple parts) h place z e k = absurd (false≢true e)
-  single_of (tree.Array elements) h place z e k = absurd (false≢true e)
-  single_of (tree.Closure closure captures) h place z e k = absurd (false≢true e)
-  single_of (tree.NewBox content) h place z e k = absurd (false≢true e)
-  single_of (tree.Print operand) h place z e k = absurd (false≢true e)
-  single_of tree.Ask h place z e k = absurd (false≢true e)
-  single_of (tree.DropValue operand) h place z e k = absurd (false≢true e)
-  single_of (tree.Forget operand) h place z e k = absurd (false≢true e)
-  single_of tree.Panic h place z e k = absurd (false≢true e)
-  single_of (tree.Borrow unique base) h place z e k = absurd (false≢true e)
-  single_of (tree.Unsize trait_no operand) h place z e k = absurd (false≢true e)
-  single_of (tree.Block statements tail) h place z e k = absurd (false≢true e)
-  single_of (tree.Let pattern initialiser) h place z e k = absurd (false≢true e)
-  single_of (tree.Evaluate expression) h place z e k = absurd (false≢true e)
-  single_of (tree.If condition consequent otherwise) h place z e k = absurd (false≢true e)
-  single_of (tree.IfLet pattern scrutinee consequent otherwise) h place z e k = absurd (false≢true e)
-  single_of (tree.Match scrutinee arms) h place z e k = absurd (false≢true e)
-  single_of (tree.Arm pattern guard body) h place z e k = absurd (false≢true e)
-  single_of (tree.Loop body) h place z e k = absurd (false≢true e)
-  single_of (tree.While condition body) h place z e k = absurd (false≢true e)
-  single_of (tree.WhileLet pattern scrutinee body) h place z e k = absurd (false≢true e)
-  single_of (tree.Break loop value) h place z e k = absurd (false≢true e)
-  single_of (tree.Continue loop) h place z e k = absurd (false≢true e)
-  single_of (tree.Return value) h place z e k = absurd (false≢true e)
-  single_of tree.Wildcard h place z e k = absurd (false≢true e)
-  single_of (tree.NumberPattern value) h place z e k = absurd (false≢true e)
-  single_of (tree.TruthPattern value) h place z e k = absurd (false≢true e)
-  single_of (tree.StructPattern fields) h place z e k = absurd (false≢true e)
-  single_of (tree.VariantPattern variant is_test fields) h place z e k = absurd (false≢true e)
-  single_of (tree.TuplePattern parts) h place z e k = absurd (false≢true e)
-  single_of (tree.ArrayPattern elements) h place z e k = absurd (false≢true e)
-  single_of (tree.OrPattern alternatives) h place z e k = absurd (false≢true e)
   single_of (tree.Binding name) h place z e (inl k) = k
   single_of (tree.Binding name) h place z e (inr k) = absurd k
+  single_of other h place z e k = absurd (false≢true e)
 
   pub single_name : (p : Node) (place : Place) (z : ℕ) → (shape items p).is_binding ≡ true →
       BoundKey ((shape items p).bindings place) z → number_of p ≡ z
@@ -290,54 +147,6 @@ module _ (items : ItemTable) where
   -- the names of a pattern that is no name stand inside it
   inner_of : (form : Form) (h : NodeHead) (place : Place) (z : ℕ) → (shape_of items form h).is_binding ≡ false →
       BoundKey ((shape_of items form h).bindings place) z → Numbered (nodes_in form) z
-  inner_of (tree.Number value) h place z e k = absurd k
-  inner_of (tree.Truth value) h place z e k = absurd k
-  inner_of tree.UnitValue h place z e k = absurd k
-  inner_of (tree.Variable key) h place z e k = absurd k
-  inner_of (tree.Captured closure part name) h place z e k = absurd k
-  inner_of (tree.Field base part) h place z e k = absurd k
-  inner_of (tree.Index base index length) h place z e k = absurd k
-  inner_of (tree.Deref base) h place z e k = absurd k
-  inner_of (tree.Not operand) h place z e k = absurd k
-  inner_of (tree.Negate operand) h place z e k = absurd k
-  inner_of (tree.Arithmetic operator left right) h place z e k = absurd k
-  inner_of (tree.Comparison operator left right) h place z e k = absurd k
-  inner_of (tree.And left right) h place z e k = absurd k
-  inner_of (tree.Or left right) h place z e k = absurd k
-  inner_of (tree.Assign target value) h place z e k = absurd k
-  inner_of (tree.Call body args) h place z e k = absurd k
-  inner_of (tree.MethodCall body receiver args) h place z e k = absurd k
-  inner_of (tree.VirtualCall trait_no method receiver args) h place z e k = absurd k
-  inner_of (tree.ClosureCall body callee args) h place z e k = absurd k
-  inner_of (tree.Make adt variant fields) h place z e k = absurd k
-  inner_of (tree.Tuple parts) h place z e k = absurd k
-  inner_of (tree.Array elements) h place z e k = absurd k
-  inner_of (tree.Closure closure captures) h place z e k = absurd k
-  inner_of (tree.NewBox content) h place z e k = absurd k
-  inner_of (tree.Print operand) h place z e k = absurd k
-  inner_of tree.Ask h place z e k = absurd k
-  inner_of (tree.DropValue operand) h place z e k = absurd k
-  inner_of (tree.Forget operand) h place z e k = absurd k
-  inner_of tree.Panic h place z e k = absurd k
-  inner_of (tree.Borrow unique base) h place z e k = absurd k
-  inner_of (tree.Unsize trait_no operand) h place z e k = absurd k
-  inner_of (tree.Block statements tail) h place z e k = absurd k
-  inner_of (tree.Let pattern initialiser) h place z e k = absurd k
-  inner_of (tree.Evaluate expression) h place z e k = absurd k
-  inner_of (tree.If condition consequent otherwise) h place z e k = absurd k
-  inner_of (tree.IfLet pattern scrutinee consequent otherwise) h place z e k = absurd k
-  inner_of (tree.Match scrutinee arms) h place z e k = absurd k
-  inner_of (tree.Arm pattern guard body) h place z e k = absurd k
-  inner_of (tree.Loop body) h place z e k = absurd k
-  inner_of (tree.While condition body) h place z e k = absurd k
-  inner_of (tree.WhileLet pattern scrutinee body) h place z e k = absurd k
-  inner_of (tree.Break loop value) h place z e k = absurd k
-  inner_of (tree.Continue loop) h place z e k = absurd k
-  inner_of (tree.Return value) h place z e k = absurd k
-  inner_of tree.Wildcard h place z e k = absurd k
-  inner_of (tree.NumberPattern value) h place z e k = absurd k
-  inner_of (tree.TruthPattern value) h place z e k = absurd k
-  inner_of (tree.OrPattern alternatives) h place z e k = absurd k
   inner_of (tree.StructPattern fields) h place z e k =
       names_in (nodes_of_fields fields) ((in_fields items fields ToPart).bindings place) (of_fields fields ToPart
       place) z k
@@ -348,6 +157,7 @@ module _ (items : ItemTable) where
   inner_of (tree.ArrayPattern elements) h place z e k =
       names_in (nodes_among elements) ((in_parts items elements 0).bindings place) (of_nodes elements 0 place) z k
   inner_of (tree.Binding name) h place z e k = absurd (false≢true (sym e))
+  inner_of other h place z e k = absurd k
 
   pub inner_name : (p : Node) (place : Place) (z : ℕ) → (shape items p).is_binding ≡ false →
       BoundKey ((shape items p).bindings place) z → Numbered (nodes_in (form_of p)) z

@@ -1,8 +1,8 @@
 -- The names of a pattern, as the pass over the forms needs them: all that the rules of typing bring into scope is
 -- bound, what is bound has a cell of its type, and a whole local is bound only where it is matched whole. And what
 -- stands around a node with such names in scope.
-use Rattle.std.proofs.Common.{◌≡◌, ◌⊎◌, inl, inr, ℕ, zero, suc, ◌==◌, ◌&&◌, not, Bool, true, false, List, [], ◌∷◌, ◌++◌, Option, Some, None, is_none, if◌then◌else◌, refl, ap, sym, ◌∙◌, subst}
-use Rattle.std.specs.List.{find, filter_map}
+use Rattle.std.proofs.Common.{◌≡◌, ◌⊎◌, inl, inr, ℕ, suc, ◌==◌, ◌&&◌, Bool, true, false, List, [], ◌∷◌, ◌++◌, Option, Some, is_none, if◌then◌else◌, refl}
+use Rattle.std.specs.List.{filter_map}
 use Rattle.std.proofs.lemmas.Bool.{false≢true}
 use Rattle.std.proofs.lemmas.Bool.Decides.{Decides-eqb}
 use Rattle.std.proofs.lemmas.Option.{none-some}
@@ -15,20 +15,17 @@ use Rattle.mir_ty.specs.Parts.{field_ty}
 use Rattle.store_model.specs.Effects.{Effects}
 use Rattle.store_model.specs.Places.Place.{Step, ToPart, ToField, Place, whole_local}
 use Rattle.typed_tree.specs.declared.node.Use.{Use}
-use Rattle.typed_tree.specs.Nodes.{number_of, nodes_of, nodes_in, nodes_among, nodes_of_fields}
+use Rattle.typed_tree.specs.Nodes.{nodes_of, nodes_in, nodes_among, nodes_of_fields}
 use Rattle.typed_tree.specs.Tree as tree
 use Rattle.typed_tree.specs.Tree.{Node, node, Form, Nodes, no_node, a_node, Fields, no_field, a_field}
-use Rattle.src_meaning.specs.Forms as forms
-use Rattle.src_meaning.specs.Forms.{Destination, LoopsAndGuards, Meaning, in_guard}
+use Rattle.src_meaning.specs.Forms.{Destination, LoopsAndGuards, Meaning}
 use Rattle.src_meaning.specs.Scopes.{Entry, Scopes, Exit, Does}
-use Rattle.src_meaning.specs.Shape.{BoundName, extended, head, shape, shape_of, Parts, in_fields, in_parts, Aliases, place_of_key}
-use Rattle.well_typed.specs.Claim.{Claim, Holds, fact, both, some}
+use Rattle.src_meaning.specs.Shape.{BoundName, extended, head, shape, shape_of, in_fields, in_parts}
+use Rattle.well_typed.specs.Claim.{Holds}
 use Rattle.well_typed.specs.Patterns as typing
 use Rattle.well_typed.specs.Patterns.{Matched, binding_name, binding_entry, entries_of, has_no_names}
-use Rattle.well_typed.specs.Places as places
-use Rattle.well_typed.specs.Places.{InScope, LoopAround, Context, with_entries, entry_with, loop_with}
+use Rattle.well_typed.specs.Places.{InScope, Context, entry_with}
 use Rattle.well_typed.specs.Types as types
-use Rattle.soundness_values.proofs.Leaving.{Among}
 use Rattle.soundness_cells.proofs.PassClear.{KeepsClear}
 use Rattle.soundness_values.proofs.PassHeads.{IsName}
 use Rattle.soundness_cells.proofs.PassNodes as nodes
@@ -68,59 +65,8 @@ named_by (node id at ty by form ∷ ns) key x e = of_form form e (λ k. named_by
 
     of_form : (form : Form) → entry_with key (filter_map binding_entry (node id at ty by form ∷ ns)) ≡ Some x → Rest →
         (IsName form × (id ≡ key)) ⊎ NameIn ns key
-    of_form (tree.Number value) e later = inr (later e)
-    of_form (tree.Truth value) e later = inr (later e)
-    of_form tree.UnitValue e later = inr (later e)
-    of_form (tree.Variable key) e later = inr (later e)
-    of_form (tree.Captured closure part name) e later = inr (later e)
-    of_form (tree.Field base part) e later = inr (later e)
-    of_form (tree.Index base index length) e later = inr (later e)
-    of_form (tree.Deref base) e later = inr (later e)
-    of_form (tree.Not operand) e later = inr (later e)
-    of_form (tree.Negate operand) e later = inr (later e)
-    of_form (tree.Arithmetic operator left right) e later = inr (later e)
-    of_form (tree.Comparison operator left right) e later = inr (later e)
-    of_form (tree.And left right) e later = inr (later e)
-    of_form (tree.Or left right) e later = inr (later e)
-    of_form (tree.Assign target value) e later = inr (later e)
-    of_form (tree.Call body args) e later = inr (later e)
-    of_form (tree.MethodCall body receiver args) e later = inr (later e)
-    of_form (tree.VirtualCall trait_no method receiver args) e later = inr (later e)
-    of_form (tree.ClosureCall body callee args) e later = inr (later e)
-    of_form (tree.Make adt variant fields) e later = inr (later e)
-    of_form (tree.Tuple parts) e later = inr (later e)
-    of_form (tree.Array elements) e later = inr (later e)
-    of_form (tree.Closure closure captures) e later = inr (later e)
-    of_form (tree.NewBox content) e later = inr (later e)
-    of_form (tree.Print operand) e later = inr (later e)
-    of_form tree.Ask e later = inr (later e)
-    of_form (tree.DropValue operand) e later = inr (later e)
-    of_form (tree.Forget operand) e later = inr (later e)
-    of_form tree.Panic e later = inr (later e)
-    of_form (tree.Borrow unique base) e later = inr (later e)
-    of_form (tree.Unsize trait_no operand) e later = inr (later e)
-    of_form (tree.Block statements tail) e later = inr (later e)
-    of_form (tree.Let pattern initialiser) e later = inr (later e)
-    of_form (tree.Evaluate expression) e later = inr (later e)
-    of_form (tree.If condition consequent otherwise) e later = inr (later e)
-    of_form (tree.IfLet pattern scrutinee consequent otherwise) e later = inr (later e)
-    of_form (tree.Match scrutinee arms) e later = inr (later e)
-    of_form (tree.Arm pattern guard body) e later = inr (later e)
-    of_form (tree.Loop body) e later = inr (later e)
-    of_form (tree.While condition body) e later = inr (later e)
-    of_form (tree.WhileLet pattern scrutinee body) e later = inr (later e)
-    of_form (tree.Break loop value) e later = inr (later e)
-    of_form (tree.Continue loop) e later = inr (later e)
-    of_form (tree.Return value) e later = inr (later e)
-    of_form tree.Wildcard e later = inr (later e)
     of_form (tree.Binding name) e later = found (id == key) refl e later
-    of_form (tree.NumberPattern value) e later = inr (later e)
-    of_form (tree.TruthPattern value) e later = inr (later e)
-    of_form (tree.StructPattern fields) e later = inr (later e)
-    of_form (tree.VariantPattern variant is_test fields) e later = inr (later e)
-    of_form (tree.TuplePattern parts) e later = inr (later e)
-    of_form (tree.ArrayPattern elements) e later = inr (later e)
-    of_form (tree.OrPattern alternatives) e later = inr (later e)
+    of_form other e later = inr (later e)
 
 -- where all names of a pattern have one number, so has what it brings into scope
 pub found_binding : (p : Node) (k : ℕ) → ((key : ℕ) → NameIn (nodes_of p) key → k ≡ key) → (key : ℕ) (x : InScope) →
@@ -142,59 +88,8 @@ no_names (node id at ty by form ∷ ns) key e h = of_form form e h (λ k x. no_n
 
     of_form : (form : Form) → has_no_names (filter_map binding_name (node id at ty by form ∷ ns)) ≡ true →
         (IsName form × (id ≡ key)) ⊎ NameIn ns key → Rest → ⊥
-    of_form (tree.Number value) e h later = apart (tree.Number value) (λ n. n) e h later
-    of_form (tree.Truth value) e h later = apart (tree.Truth value) (λ n. n) e h later
-    of_form tree.UnitValue e h later = apart tree.UnitValue (λ n. n) e h later
-    of_form (tree.Variable key) e h later = apart (tree.Variable key) (λ n. n) e h later
-    of_form (tree.Captured closure part name) e h later = apart (tree.Captured closure part name) (λ n. n) e h later
-    of_form (tree.Field base part) e h later = apart (tree.Field base part) (λ n. n) e h later
-    of_form (tree.Index base index length) e h later = apart (tree.Index base index length) (λ n. n) e h later
-    of_form (tree.Deref base) e h later = apart (tree.Deref base) (λ n. n) e h later
-    of_form (tree.Not operand) e h later = apart (tree.Not operand) (λ n. n) e h later
-    of_form (tree.Negate operand) e h later = apart (tree.Negate operand) (λ n. n) e h later
-    of_form (tree.Arithmetic operator left right) e h later = apart (tree.Arithmetic operator left right) (λ n. n) e h later
-    of_form (tree.Comparison operator left right) e h later = apart (tree.Comparison operator left right) (λ n. n) e h later
-    of_form (tree.And left right) e h later = apart (tree.And left right) (λ n. n) e h later
-    of_form (tree.Or left right) e h later = apart (tree.Or left right) (λ n. n) e h later
-    of_form (tree.Assign target value) e h later = apart (tree.Assign target value) (λ n. n) e h later
-    of_form (tree.Call body args) e h later = apart (tree.Call body args) (λ n. n) e h later
-    of_form (tree.MethodCall body receiver args) e h later = apart (tree.MethodCall body receiver args) (λ n. n) e h later
-    of_form (tree.VirtualCall trait_no method receiver args) e h later = apart (tree.VirtualCall trait_no method receiver args) (λ n. n) e h later
-    of_form (tree.ClosureCall body callee args) e h later = apart (tree.ClosureCall body callee args) (λ n. n) e h later
-    of_form (tree.Make adt variant fields) e h later = apart (tree.Make adt variant fields) (λ n. n) e h later
-    of_form (tree.Tuple parts) e h later = apart (tree.Tuple parts) (λ n. n) e h later
-    of_form (tree.Array elements) e h later = apart (tree.Array elements) (λ n. n) e h later
-    of_form (tree.Closure closure captures) e h later = apart (tree.Closure closure captures) (λ n. n) e h later
-    of_form (tree.NewBox content) e h later = apart (tree.NewBox content) (λ n. n) e h later
-    of_form (tree.Print operand) e h later = apart (tree.Print operand) (λ n. n) e h later
-    of_form tree.Ask e h later = apart tree.Ask (λ n. n) e h later
-    of_form (tree.DropValue operand) e h later = apart (tree.DropValue operand) (λ n. n) e h later
-    of_form (tree.Forget operand) e h later = apart (tree.Forget operand) (λ n. n) e h later
-    of_form tree.Panic e h later = apart tree.Panic (λ n. n) e h later
-    of_form (tree.Borrow unique base) e h later = apart (tree.Borrow unique base) (λ n. n) e h later
-    of_form (tree.Unsize trait_no operand) e h later = apart (tree.Unsize trait_no operand) (λ n. n) e h later
-    of_form (tree.Block statements tail) e h later = apart (tree.Block statements tail) (λ n. n) e h later
-    of_form (tree.Let pattern initialiser) e h later = apart (tree.Let pattern initialiser) (λ n. n) e h later
-    of_form (tree.Evaluate expression) e h later = apart (tree.Evaluate expression) (λ n. n) e h later
-    of_form (tree.If condition consequent otherwise) e h later = apart (tree.If condition consequent otherwise) (λ n. n) e h later
-    of_form (tree.IfLet pattern scrutinee consequent otherwise) e h later = apart (tree.IfLet pattern scrutinee consequent otherwise) (λ n. n) e h later
-    of_form (tree.Match scrutinee arms) e h later = apart (tree.Match scrutinee arms) (λ n. n) e h later
-    of_form (tree.Arm pattern guard body) e h later = apart (tree.Arm pattern guard body) (λ n. n) e h later
-    of_form (tree.Loop body) e h later = apart (tree.Loop body) (λ n. n) e h later
-    of_form (tree.While condition body) e h later = apart (tree.While condition body) (λ n. n) e h later
-    of_form (tree.WhileLet pattern scrutinee body) e h later = apart (tree.WhileLet pattern scrutinee body) (λ n. n) e h later
-    of_form (tree.Break loop value) e h later = apart (tree.Break loop value) (λ n. n) e h later
-    of_form (tree.Continue loop) e h later = apart (tree.Continue loop) (λ n. n) e h later
-    of_form (tree.Return value) e h later = apart (tree.Return value) (λ n. n) e h later
-    of_form tree.Wildcard e h later = apart tree.Wildcard (λ n. n) e h later
     of_form (tree.Binding name) e h later = false≢true e
-    of_form (tree.NumberPattern value) e h later = apart (tree.NumberPattern value) (λ n. n) e h later
-    of_form (tree.TruthPattern value) e h later = apart (tree.TruthPattern value) (λ n. n) e h later
-    of_form (tree.StructPattern fields) e h later = apart (tree.StructPattern fields) (λ n. n) e h later
-    of_form (tree.VariantPattern variant is_test fields) e h later = apart (tree.VariantPattern variant is_test fields) (λ n. n) e h later
-    of_form (tree.TuplePattern parts) e h later = apart (tree.TuplePattern parts) (λ n. n) e h later
-    of_form (tree.ArrayPattern elements) e h later = apart (tree.ArrayPattern elements) (λ n. n) e h later
-    of_form (tree.OrPattern alternatives) e h later = apart (tree.OrPattern alternatives) (λ n. n) e h later
+    of_form other e h later = apart other (λ n. n) e h later
 
 module _ {V : Type 0} (items : ItemTable) (needs : ℕ → Bool) (q : Effects V) (clear : V → ℕ → Type 0)
     (keeps : KeepsClear q needs clear) (fuel : ℕ) where
@@ -310,50 +205,6 @@ module _ {V : Type 0} (items : ItemTable) (needs : ℕ → Bool) (q : Effects V)
         Holds (typing.pattern_row items m ty by form) →
         nodes.NeedsOk items needs q clear keeps fuel (node id at ty by form) → Good (nodes_in form) → (place : Place) →
         PatternOk (node id at ty by form ∷ nodes_in form) place ((shape_of items form (head id ty by)).bindings place)
-    row_ok (tree.Number value) id at ty by m h n g place = absurd (false≢true h)
-    row_ok (tree.Truth value) id at ty by m h n g place = absurd (false≢true h)
-    row_ok tree.UnitValue id at ty by m h n g place = absurd (false≢true h)
-    row_ok (tree.Variable key) id at ty by m h n g place = absurd (false≢true h)
-    row_ok (tree.Captured closure part name) id at ty by m h n g place = absurd (false≢true h)
-    row_ok (tree.Field base part) id at ty by m h n g place = absurd (false≢true h)
-    row_ok (tree.Index base index length) id at ty by m h n g place = absurd (false≢true h)
-    row_ok (tree.Deref base) id at ty by m h n g place = absurd (false≢true h)
-    row_ok (tree.Not operand) id at ty by m h n g place = absurd (false≢true h)
-    row_ok (tree.Negate operand) id at ty by m h n g place = absurd (false≢true h)
-    row_ok (tree.Arithmetic operator left right) id at ty by m h n g place = absurd (false≢true h)
-    row_ok (tree.Comparison operator left right) id at ty by m h n g place = absurd (false≢true h)
-    row_ok (tree.And left right) id at ty by m h n g place = absurd (false≢true h)
-    row_ok (tree.Or left right) id at ty by m h n g place = absurd (false≢true h)
-    row_ok (tree.Assign target value) id at ty by m h n g place = absurd (false≢true h)
-    row_ok (tree.Call body args) id at ty by m h n g place = absurd (false≢true h)
-    row_ok (tree.MethodCall body receiver args) id at ty by m h n g place = absurd (false≢true h)
-    row_ok (tree.VirtualCall trait_no method receiver args) id at ty by m h n g place = absurd (false≢true h)
-    row_ok (tree.ClosureCall body callee args) id at ty by m h n g place = absurd (false≢true h)
-    row_ok (tree.Make adt variant fields) id at ty by m h n g place = absurd (false≢true h)
-    row_ok (tree.Tuple parts) id at ty by m h n g place = absurd (false≢true h)
-    row_ok (tree.Array elements) id at ty by m h n g place = absurd (false≢true h)
-    row_ok (tree.Closure closure captures) id at ty by m h n g place = absurd (false≢true h)
-    row_ok (tree.NewBox content) id at ty by m h n g place = absurd (false≢true h)
-    row_ok (tree.Print operand) id at ty by m h n g place = absurd (false≢true h)
-    row_ok tree.Ask id at ty by m h n g place = absurd (false≢true h)
-    row_ok (tree.DropValue operand) id at ty by m h n g place = absurd (false≢true h)
-    row_ok (tree.Forget operand) id at ty by m h n g place = absurd (false≢true h)
-    row_ok tree.Panic id at ty by m h n g place = absurd (false≢true h)
-    row_ok (tree.Borrow unique base) id at ty by m h n g place = absurd (false≢true h)
-    row_ok (tree.Unsize trait_no operand) id at ty by m h n g place = absurd (false≢true h)
-    row_ok (tree.Block statements tail) id at ty by m h n g place = absurd (false≢true h)
-    row_ok (tree.Let pattern initialiser) id at ty by m h n g place = absurd (false≢true h)
-    row_ok (tree.Evaluate expression) id at ty by m h n g place = absurd (false≢true h)
-    row_ok (tree.If condition consequent otherwise) id at ty by m h n g place = absurd (false≢true h)
-    row_ok (tree.IfLet pattern scrutinee consequent otherwise) id at ty by m h n g place = absurd (false≢true h)
-    row_ok (tree.Match scrutinee arms) id at ty by m h n g place = absurd (false≢true h)
-    row_ok (tree.Arm pattern guard body) id at ty by m h n g place = absurd (false≢true h)
-    row_ok (tree.Loop body) id at ty by m h n g place = absurd (false≢true h)
-    row_ok (tree.While condition body) id at ty by m h n g place = absurd (false≢true h)
-    row_ok (tree.WhileLet pattern scrutinee body) id at ty by m h n g place = absurd (false≢true h)
-    row_ok (tree.Break loop value) id at ty by m h n g place = absurd (false≢true h)
-    row_ok (tree.Continue loop) id at ty by m h n g place = absurd (false≢true h)
-    row_ok (tree.Return value) id at ty by m h n g place = absurd (false≢true h)
     row_ok tree.Wildcard id at ty by m h n g place =
         outside_ok id at ty by tree.Wildcard [] place
         [] (λ n. n)
@@ -403,6 +254,7 @@ module _ {V : Type 0} (items : ItemTable) (needs : ℕ → Bool) (q : Effects V)
         second : (a b : Bool) → (a && b) ≡ true → b ≡ true
         second true b e = e
         second false b e = absurd (false≢true e)
+    row_ok other id at ty by m h n g place = absurd (false≢true h)
 
     fields_ok : (fields : Fields) (m : Matched) (ty : TyId) (variant : ℕ) (step : ℕ → Step) →
         Holds (typing.field_patterns items m ty variant fields) → Good (nodes_of_fields fields) → (place : Place) →

@@ -37,18 +37,13 @@ is_int_ty (Ty.Int kind) = true
 is_int_ty ty = false
 
 int_scalar : (ty : Ty) → is_int_ty ty ≡ true → is_scalar ty ≡ true
-int_scalar Ty.Unit e = refl
-int_scalar (Ty.Int kind) e = refl
-int_scalar Ty.Bool e = refl
-int_scalar Ty.Never e = refl
-int_scalar (Ty.Shared to) e = refl
-int_scalar (Ty.Unique to) e = refl
 int_scalar (Ty.Adt n) e = absurd (false≢true e)
 int_scalar (Ty.Tuple parts) e = absurd (false≢true e)
 int_scalar (Ty.Array element count) e = absurd (false≢true e)
 int_scalar (Ty.Boxed inside) e = absurd (false≢true e)
 int_scalar (Ty.Dyn n) e = absurd (false≢true e)
 int_scalar (Ty.Closure n) e = absurd (false≢true e)
+int_scalar other e = refl
 
 same_type : (a b : TyId) → types.is_same a b ≡ true → a ≡ b
 same_type a b h = ap (λ n. record { 0 = n }) ((Decides-eqb a.0 b.0).0 h)
@@ -108,18 +103,13 @@ module _ {V : Type 0} (items : ItemTable) (needs : ℕ → Bool) (q : Effects V)
 
   scalar_rule : (known : TyId → Bool) (ty : Ty) → is_scalar ty ≡ true →
       drop_rule items.adts items.closures known ty ≡ false
-  scalar_rule known (Ty.Int kind) e = refl
-  scalar_rule known Ty.Bool e = refl
-  scalar_rule known Ty.Unit e = refl
-  scalar_rule known Ty.Never e = refl
-  scalar_rule known (Ty.Shared to) e = refl
-  scalar_rule known (Ty.Unique to) e = refl
   scalar_rule known (Ty.Adt n) e = absurd (false≢true e)
   scalar_rule known (Ty.Tuple parts) e = absurd (false≢true e)
   scalar_rule known (Ty.Array element count) e = absurd (false≢true e)
   scalar_rule known (Ty.Boxed inside) e = absurd (false≢true e)
   scalar_rule known (Ty.Dyn n) e = absurd (false≢true e)
   scalar_rule known (Ty.Closure n) e = absurd (false≢true e)
+  scalar_rule known other e = refl
 
   -- a type of which a test holds that scalars alone pass
   pub no_drop : (test : Ty → Bool) → ((ty : Ty) → test ty ≡ true → is_scalar ty ≡ true) → (id : TyId) →
@@ -137,46 +127,31 @@ module _ {V : Type 0} (items : ItemTable) (needs : ℕ → Bool) (q : Effects V)
       rounds (suc k) = rule k (type_at items id) e
 
   unit_scalar : (ty : Ty) → is_unit_ty ty ≡ true → is_scalar ty ≡ true
-  unit_scalar Ty.Unit e = refl
-  unit_scalar (Ty.Int kind) e = refl
-  unit_scalar Ty.Bool e = refl
-  unit_scalar Ty.Never e = refl
-  unit_scalar (Ty.Shared to) e = refl
-  unit_scalar (Ty.Unique to) e = refl
   unit_scalar (Ty.Adt n) e = absurd (false≢true e)
   unit_scalar (Ty.Tuple parts) e = absurd (false≢true e)
   unit_scalar (Ty.Array element count) e = absurd (false≢true e)
   unit_scalar (Ty.Boxed inside) e = absurd (false≢true e)
   unit_scalar (Ty.Dyn n) e = absurd (false≢true e)
   unit_scalar (Ty.Closure n) e = absurd (false≢true e)
+  unit_scalar other e = refl
 
   bool_scalar : (ty : Ty) → is_bool_ty ty ≡ true → is_scalar ty ≡ true
-  bool_scalar Ty.Unit e = refl
-  bool_scalar (Ty.Int kind) e = refl
-  bool_scalar Ty.Bool e = refl
-  bool_scalar Ty.Never e = refl
-  bool_scalar (Ty.Shared to) e = refl
-  bool_scalar (Ty.Unique to) e = refl
   bool_scalar (Ty.Adt n) e = absurd (false≢true e)
   bool_scalar (Ty.Tuple parts) e = absurd (false≢true e)
   bool_scalar (Ty.Array element count) e = absurd (false≢true e)
   bool_scalar (Ty.Boxed inside) e = absurd (false≢true e)
   bool_scalar (Ty.Dyn n) e = absurd (false≢true e)
   bool_scalar (Ty.Closure n) e = absurd (false≢true e)
+  bool_scalar other e = refl
 
   never_scalar : (ty : Ty) → is_never_ty ty ≡ true → is_scalar ty ≡ true
-  never_scalar Ty.Unit e = refl
-  never_scalar (Ty.Int kind) e = refl
-  never_scalar Ty.Bool e = refl
-  never_scalar Ty.Never e = refl
-  never_scalar (Ty.Shared to) e = refl
-  never_scalar (Ty.Unique to) e = refl
   never_scalar (Ty.Adt n) e = absurd (false≢true e)
   never_scalar (Ty.Tuple parts) e = absurd (false≢true e)
   never_scalar (Ty.Array element count) e = absurd (false≢true e)
   never_scalar (Ty.Boxed inside) e = absurd (false≢true e)
   never_scalar (Ty.Dyn n) e = absurd (false≢true e)
   never_scalar (Ty.Closure n) e = absurd (false≢true e)
+  never_scalar other e = refl
 
   pub unit_none : (id : TyId) → types.is_unit items id ≡ true → needs_drop items id ≡ false
   unit_none id e = no_drop is_unit_ty unit_scalar id e
@@ -194,17 +169,7 @@ module _ {V : Type 0} (items : ItemTable) (needs : ℕ → Bool) (q : Effects V)
           option_map_or is_int_ty o false ≡ true
       by None e = absurd (false≢true e)
       by (Some (Ty.Int kind)) e = refl
-      by (Some Ty.Bool) e = absurd (false≢true e)
-      by (Some Ty.Unit) e = absurd (false≢true e)
-      by (Some Ty.Never) e = absurd (false≢true e)
-      by (Some (Ty.Adt n)) e = absurd (false≢true e)
-      by (Some (Ty.Tuple parts)) e = absurd (false≢true e)
-      by (Some (Ty.Array element count)) e = absurd (false≢true e)
-      by (Some (Ty.Boxed inside)) e = absurd (false≢true e)
-      by (Some (Ty.Dyn n)) e = absurd (false≢true e)
-      by (Some (Ty.Shared to)) e = absurd (false≢true e)
-      by (Some (Ty.Unique to)) e = absurd (false≢true e)
-      by (Some (Ty.Closure n)) e = absurd (false≢true e)
+      by (Some other) e = absurd (false≢true e)
 
   -- the type `!` is asked for in two ways
   pub never_same : (id : TyId) → types.is_never items id ≡ is_never items id
@@ -213,17 +178,7 @@ module _ {V : Type 0} (items : ItemTable) (needs : ℕ → Bool) (q : Effects V)
       by : (o : Option Ty) → option_map_or is_never_ty o false ≡ type_forms.is_never o
       by None = refl
       by (Some (Ty.Int kind)) = refl
-      by (Some Ty.Bool) = refl
-      by (Some Ty.Unit) = refl
-      by (Some Ty.Never) = refl
-      by (Some (Ty.Adt n)) = refl
-      by (Some (Ty.Tuple parts)) = refl
-      by (Some (Ty.Array element count)) = refl
-      by (Some (Ty.Boxed inside)) = refl
-      by (Some (Ty.Dyn n)) = refl
-      by (Some (Ty.Shared to)) = refl
-      by (Some (Ty.Unique to)) = refl
-      by (Some (Ty.Closure n)) = refl
+      by (Some other) = refl
 
   pub either : (a b : Bool) → (a || b) ≡ true → (a ≡ true) ⊎ (b ≡ true)
   either true b e = inl refl

@@ -11,7 +11,7 @@ use Rattle.mir_ty.specs.ItemTable.{ItemTable}
 use Rattle.store_model.specs.Abstract.Effects as free
 use Rattle.store_model.specs.Abstract.Effects.{AbstractState, abstract_effects, acted_on, never_at}
 use Rattle.store_model.specs.Effects as effects
-use Rattle.store_model.specs.Effects.{EffectSite, Operand, Action, Test, Mode, Normal, Unwinding, Halt, Aborted, OutOfTicks, Stuck, StuckAt, BadUse, BadStore, NoChoice, Infeasible, Unreachable, Out, Go, Unwind, Halts, Choice, Yes, No, Neither, Effects, halting_if, stores_where}
+use Rattle.store_model.specs.Effects.{EffectSite, Operand, Action, Test, Mode, Normal, Halt, Aborted, OutOfTicks, Stuck, StuckAt, BadUse, BadStore, NoChoice, Infeasible, Unreachable, Out, Go, Unwind, Halts, Choice, Yes, No, Neither, Effects, halting_if, stores_where}
 use Rattle.store_model.specs.Places.Place.{Step, ToPart, ToField, ToContent, ToElement, Place, whole_local, same_step}
 use Rattle.typed_tree.specs.Tree.{BodyTree}
 use Rattle.src_meaning.specs.Forms.{moved}
@@ -110,25 +110,11 @@ module _ (items : ItemTable) (body : BodyTree) where
   pub unwound_calm : (action : Action) (facts : Facts) → facts.refilled ≡ None →
       (checks.after_unwound items (local_ty items body) (is_reference_param items body) action facts).refilled ≡ None
   unwound_calm (effects.Bounds index length) facts e = e
-  unwound_calm (effects.Put to from) facts e = action_calm (effects.Put to from) facts e
-  unwound_calm (effects.Compare to operator left right) facts e =
-      action_calm (effects.Compare to operator left right) facts e
-  unwound_calm (effects.Not to operand) facts e = action_calm (effects.Not to operand) facts e
-  unwound_calm (effects.Build to kind parts) facts e = action_calm (effects.Build to kind parts) facts e
-  unwound_calm (effects.NewBox to content) facts e = action_calm (effects.NewBox to content) facts e
-  unwound_calm (effects.Unsize to trait_no operand) facts e = action_calm (effects.Unsize to trait_no operand) facts e
   unwound_calm (effects.Borrow to unique base) facts e = e
   unwound_calm (effects.Touch base) facts e = e
-  unwound_calm (effects.Print operand) facts e = action_calm (effects.Print operand) facts e
-  unwound_calm (effects.Forget operand) facts e = action_calm (effects.Forget operand) facts e
   unwound_calm (effects.Free box) facts e = e
-  unwound_calm (effects.Compute to operator left right) facts e =
-      action_calm (effects.Compute to operator left right) facts e
-  unwound_calm (effects.Negate to operand) facts e = action_calm (effects.Negate to operand) facts e
-  unwound_calm (effects.Call to callee args) facts e = action_calm (effects.Call to callee args) facts e
-  unwound_calm (effects.CallVirtual to trait_no method args) facts e =
-      action_calm (effects.CallVirtual to trait_no method args) facts e
   unwound_calm (effects.Ask to) facts e = e
+  unwound_calm other facts e = action_calm other facts e
 
   pub taken_calm : (test : Test) (facts : Facts) → facts.refilled ≡ None →
       (checks.after_taken items (local_ty items body) (is_reference_param items body) test facts).refilled ≡ None
@@ -222,15 +208,9 @@ abbrev pub not_mark : {V : Type 0} → ℕ → Halt → V → Type 0
 not_mark own halt v = NotMark own halt
 
 pub unmarked : (own : ℕ) (halt : Halt) → NotStuck halt → NotMark own halt
-unmarked own Aborted h = tt
-unmarked own OutOfTicks h = tt
 unmarked own Stuck h = absurd h
 unmarked own (StuckAt body block) h = absurd h
-unmarked own (BadUse site) h = tt
-unmarked own (BadStore site) h = tt
-unmarked own NoChoice h = tt
-unmarked own Infeasible h = tt
-unmarked own Unreachable h = tt
+unmarked own other h = tt
 
 -- it has no mark at all, and where it halts for want of a choice it says so
 abbrev pub SaysLost : Halt → Bool → Type 0

@@ -1,7 +1,7 @@
 -- What is left of the tests in two halves, by one run that marks both: 5 where the half on places fails (what is known of
 -- places, may be moved and changed, what comes to a place that waits, and results), 6 where the half on calls does (calls,
 -- borrows into a cell apart, protected parameters). No run fails what is left if none has one of these marks.
-use Rattle.std.proofs.Common.{◌≡◌, ◌⊎◌, inl, inr, ℕ, ◌==◌, ◌&&◌, ◌||◌, not, Bool, true, false, List, [], ◌∷◌, Option, Some, None, refl, ap, sym, ◌∙◌, subst}
+use Rattle.std.proofs.Common.{◌≡◌, ◌⊎◌, inl, inr, ℕ, ◌==◌, ◌&&◌, ◌||◌, not, Bool, true, false, List, Option, Some, None, refl, ap, sym, ◌∙◌, subst}
 use Rattle.std.specs.Prelude.{slice_get}
 use Rattle.std.specs.Option.{option_map_or}
 use Rattle.std.specs.Cmp.{first_so, second_so}
@@ -16,7 +16,7 @@ use Rattle.store_model.proofs.Effects.Following.{Relation, FollowsOut, goes_on, 
 use Rattle.store_model.specs.Abstract.Effects.{AbstractState, abstract_effects, presence}
 use Rattle.store_model.specs.Abstract.Presence.{Presence, all_present}
 use Rattle.store_model.specs.Effects as effects
-use Rattle.store_model.specs.Effects.{EffectSite, Action, Test, Mode, Halt, Aborted, OutOfTicks, Stuck, StuckAt, BadUse, BadStore, NoChoice, Infeasible, Unreachable, Out, Go, Unwind, Halts, Choice, Yes, No, Neither, Effects}
+use Rattle.store_model.specs.Effects.{EffectSite, Action, Test, Mode, Halt, StuckAt, Out, Go, Unwind, Halts, Choice, Yes, No, Neither, Effects}
 use Rattle.store_model.specs.Places.Place.{Place}
 use Rattle.src_meaning.proofs.ProgramsFollow.{activation_follow}
 use Rattle.src_meaning.proofs.RunLaws.{located}
@@ -102,27 +102,16 @@ module _ (items : ItemTable) (body : BodyTree) where
       calls_act facts cells action ≡ true → left_act items body facts cells action ≡ true
   acts_of facts cells (effects.Put to (effects.Copied site)) h k = h
   acts_of facts cells (effects.Put to (effects.Moved site)) h k = h
-  acts_of facts cells (effects.Put to from) h k = refl
   acts_of facts cells (effects.Compare to operator (effects.Copied site) right) h k = h
-  acts_of facts cells (effects.Compare to operator (effects.Moved site) right) h k = refl
   acts_of facts cells (effects.Compare to operator left right) h k = h
-  acts_of facts cells (effects.Not to operand) h k = refl
-  acts_of facts cells (effects.Build to kind parts) h k = refl
-  acts_of facts cells (effects.NewBox to content) h k = refl
-  acts_of facts cells (effects.Unsize to trait_no operand) h k = refl
   acts_of facts cells (effects.Borrow to unique base) h k =
       both_true (first_so (not (is_reference_param items body to.place.local)) _ k)
       (both_true h (second_so (not (is_reference_param items body to.place.local)) _ k))
   acts_of facts cells (effects.Touch base) h k = h
-  acts_of facts cells (effects.Print operand) h k = refl
-  acts_of facts cells (effects.Forget operand) h k = refl
   acts_of facts cells (effects.Free box) h k = absurd (false≢true k)
-  acts_of facts cells (effects.Compute to operator left right) h k = refl
-  acts_of facts cells (effects.Negate to operand) h k = refl
-  acts_of facts cells (effects.Bounds index length) h k = refl
   acts_of facts cells (effects.Call to callee args) h k = k
   acts_of facts cells (effects.CallVirtual to trait_no method args) h k = k
-  acts_of facts cells (effects.Ask to) h k = refl
+  acts_of facts cells other h k = refl
 
   -- both halves together are what is left
   pub both_halves : (facts : Facts) (cells : Cells) (action : Action) → places_now facts cells action ≡ true →

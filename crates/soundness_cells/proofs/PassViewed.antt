@@ -1,6 +1,6 @@
 -- The evaluation with a view around each of its nodes, so that worked runs can be tested node by node. With a view
 -- that changes nothing it is the evaluation.
-use Rattle.std.specs.Prelude.{ℕ, Bool, true, false, List, [], ◌∷◌, map, Option, Some, None}
+use Rattle.std.specs.Prelude.{ℕ, true, false, List, [], ◌∷◌, Option, Some, None}
 use Rattle.mir_base.specs.declared.trace.Why.{Why}
 use Rattle.mir_ty.specs.ItemTable.{ItemTable}
 use Rattle.store_model.specs.Effects as effects
@@ -101,15 +101,7 @@ module _ {W : Type 0} (items : ItemTable) (p : Effects W) (fuel : ℕ) (view : N
     meaning_of (tree.Continue loop) h s = evaluation.a_value items p fuel h s (λ around own to. At (Continues loop))
     meaning_of (tree.Return value) h s =
         evaluation.a_scope items p fuel h s (evaluation.returns items p fuel h (meaning_if_any value))
-    meaning_of tree.Wildcard h s = evaluation.a_pattern items p fuel h s
-    meaning_of (tree.Binding name) h s = evaluation.a_pattern items p fuel h s
-    meaning_of (tree.NumberPattern value) h s = evaluation.a_pattern items p fuel h s
-    meaning_of (tree.TruthPattern value) h s = evaluation.a_pattern items p fuel h s
-    meaning_of (tree.StructPattern fields) h s = evaluation.a_pattern items p fuel h s
-    meaning_of (tree.VariantPattern variant is_test fields) h s = evaluation.a_pattern items p fuel h s
-    meaning_of (tree.TuplePattern parts) h s = evaluation.a_pattern items p fuel h s
-    meaning_of (tree.ArrayPattern elements) h s = evaluation.a_pattern items p fuel h s
-    meaning_of (tree.OrPattern alternatives) h s = evaluation.a_pattern items p fuel h s
+    meaning_of other h s = evaluation.a_pattern items p fuel h s
 
     pub meanings : Nodes → List (Meaning W)
     meanings no_node = []

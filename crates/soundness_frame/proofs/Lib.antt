@@ -8,6 +8,8 @@ pub mod PassFrameBodies
 pub mod PassFrameCalls
 pub mod PassFrameCells
 pub mod PassFrameFacts
+pub mod PassFrameHeads
+pub mod PassFrameOperands
 pub mod PassFrameForms
 pub mod PassFrameRuns
 pub mod PassKeys
@@ -18,6 +20,7 @@ pub mod PassStays
 pub mod PassStillKnown
 pub mod PassTold
 pub mod PassToldAliases
+pub mod PassToldBelow
 pub mod PassToldForms
 pub mod PassToldParts
 pub mod PassToldPatterns

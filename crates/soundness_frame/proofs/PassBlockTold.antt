@@ -10,7 +10,7 @@ use Rattle.std.proofs.lemmas.Option.{none-some, same_Some}
 use Rattle.mir_ty.specs.declared.def.ClosureDef.{ClosureDef}
 use Rattle.mir_ty.specs.declared.def.Sig.{Sig}
 use Rattle.mir_ty.specs.ItemTable.{ItemTable}
-use Rattle.store_model.specs.Places.Place.{Place, whole_local}
+use Rattle.store_model.specs.Places.Place.{whole_local}
 use Rattle.typed_tree.specs.Nodes.{number_of, nodes_of, param_nodes}
 use Rattle.typed_tree.specs.Tree.{Node, node, Form, ParamTree, BodyTree, ProgramTree}
 use Rattle.src_meaning.specs.Shape as shapes
@@ -33,15 +33,16 @@ use Rattle.soundness_cells.proofs.PassCellPatterns.{Told as Told_}
 use Rattle.soundness_cells.proofs.PassCellPlaces.{Scoped}
 use Rattle.soundness_cells.proofs.PassNumbers.{Numbered}
 use Rattle.soundness_frame.proofs.PassPastParams.{no_param}
-use Rattle.soundness_values.proofs.NoOverlap.{SeenIf, Seen, is_seen}
+use Rattle.soundness_values.proofs.NoOverlap.{is_seen}
 use Rattle.soundness_cells.proofs.PassCells.{Above, NodeIn, above_in, one_node, rising}
 use Rattle.soundness_cells.proofs.PassFacts.{Standpoint, context}
 use Rattle.soundness_cells.proofs.PassFirst.{body_at}
 use Rattle.soundness_frame.proofs.PassFrameBodies.{any_place}
 use Rattle.soundness_cells.proofs.PassNames.{NameIn, named_by}
 use Rattle.soundness_values.proofs.PassHeads.{IsName}
-use Rattle.soundness_frame.proofs.PassTold.{KnownOf, Here, IfRoot, Told, no_append}
-use Rattle.soundness_frame.proofs.PassToldForms.{Saying, node_within}
+use Rattle.soundness_frame.proofs.PassTold.{KnownOf, Here, IfRoot, no_append}
+use Rattle.soundness_frame.proofs.PassToldBelow.{Saying}
+use Rattle.soundness_frame.proofs.PassToldForms.{node_within}
 use Rattle.soundness_frame.proofs.PassToldPatterns.{name_left, name_right}
 use Rattle.soundness_frame.proofs.PassToldPlaces.{name_above, found_in, Rises, rises_right, above_right, AllOwned, AllPermit, MaySeen}
 use Rattle.soundness_frame.proofs.PassWithin.{is_among, Within, Outer, outermost}

@@ -1,6 +1,6 @@
 -- What is kept by each effect of which something is known is kept by the run of a body, if it is known of each call,
 -- each borrow and each assignment of its block; whatever places are changed.
-use Rattle.std.proofs.Common.{◌≡◌, ℕ, ◌==◌, ◌||◌, Bool, true, false, List, [], ◌∷◌, refl, ap}
+use Rattle.std.proofs.Common.{◌≡◌, ℕ, ◌||◌, Bool, true, false, List, [], ◌∷◌, refl, ap}
 use Rattle.std.proofs.lemmas.Bool.Decides.{Decides-eqb}
 use Rattle.typed_tree.specs.Nodes.{number_of}
 use Rattle.std.proofs.lemmas.Bool.{false≢true}
@@ -9,8 +9,7 @@ use Rattle.store_model.specs.Effects as effects
 use Rattle.store_model.specs.Effects.{EffectSite, Operand, Action, Unwinding, Halt, Out, Go, Unwind, Halts, Effects, aborting}
 use Rattle.store_model.specs.Places.Place.{Place, whole_local}
 use Rattle.typed_tree.specs.Tree.{Form, ParamTree, BodyTree}
-use Rattle.src_meaning.specs.Evaluation.{meaning}
-use Rattle.src_meaning.specs.Forms.{Into, LoopsAndGuards, site_of_key}
+use Rattle.src_meaning.specs.Forms.{Into, site_of_key}
 use Rattle.src_meaning.specs.Locals.OfBody.{param_key, answer_key}
 use Rattle.src_meaning.specs.Programs as programs
 use Rattle.src_meaning.specs.Programs.{activation, around_body, answer_scope, entire_function, params_entered, names_of_param}
@@ -19,8 +18,9 @@ use Rattle.src_meaning.specs.Shape.{Aliases, BoundName, operand_of_bound, shape}
 use Rattle.soundness_values.proofs.Leaving.{ShownOut}
 use Rattle.soundness_frame.proofs.PassFrame as frame
 use Rattle.soundness_frame.proofs.PassFrameActs.{Takes, BoundsMay, KeepingSo}
+use Rattle.soundness_frame.proofs.PassFrameOperands as pass_frame_operands
 use Rattle.soundness_frame.proofs.PassFrameForms as forms
-use Rattle.soundness_frame.proofs.PassFrameForms.{Telling, TellingCalls}
+use Rattle.soundness_frame.proofs.PassFrameHeads.{Telling, TellingCalls}
 use Rattle.soundness_frame.proofs.PassWithin.{AroundSo, Within, is_among, Outer, passing, outermost}
 
 -- every place may be changed
@@ -42,7 +42,7 @@ module _ {V : Type 0} (items : ItemTable) (q : Effects V) (over : Halt → V →
     (Drops : EffectSite → Type 0) (Coerce : Place → Type 0) (I : V → Type 0)
     (keeping : KeepingSo q over Does_ Drops any_place Coerce any_place I)
     (Says : Aliases → Outer → ℕ → Form → Type 0) (fuel : ℕ) (telling : Telling items Does_ Drops Says)
-    (at_calls : forms.AtCalls items q over Does_ Drops any_place Coerce any_place I keeping Says fuel)
+    (at_calls : pass_frame_operands.AtCalls items q over Does_ Drops any_place Coerce any_place I keeping Says fuel)
     (gives : (site : EffectSite) (v : V) → I v → ShownOut over I I (q.give site v)) where
   abbrev Keeps : Does V → Type 0
   Keeps = frame.Keeps items q over Does_ Drops any_place Coerce any_place I keeping
@@ -124,5 +124,5 @@ pub body_kept : {V : Type 0} (items : ItemTable) (q : Effects V) (over : Halt �
     ShownOut over I I (activation items q fuel body v)
 body_kept items q over Does_ Drops Coerce I keeping Says fuel telling known gives body within v i =
     body_kept_by items q over Does_ Drops Coerce I keeping Says fuel telling
-    (forms.by_telling items q over Does_ Drops any_place Coerce any_place I keeping Says fuel known) gives body within
+    (pass_frame_operands.by_telling items q over Does_ Drops any_place Coerce any_place I keeping Says fuel known) gives body within
     v i

@@ -18,7 +18,7 @@ use Rattle.soundness_values.proofs.Leaving.{ShownOut}
 use Rattle.soundness_frame.proofs.PassWithin.{Outer}
 use Rattle.soundness_frame.proofs.PassFrame as frame
 use Rattle.soundness_frame.proofs.PassFrameActs.{DestSo, KeepingSo}
-use Rattle.soundness_frame.proofs.PassFrameForms as of_forms
+use Rattle.soundness_frame.proofs.PassFrameHeads as pass_frame_heads
 
 -- what holds where there is a value
 abbrev pub Ends : {V : Type 0} → (V → Type 0) → Run V → Type 0
@@ -162,7 +162,7 @@ module _ {V : Type 0} (items : ItemTable) (q : Effects V) (over : Halt → V →
       (frame.operands_kept items q over Does_ Drops Store Coerce May I keeping around ms e) ends
       (λ k S v f i j. delivered J (head id ty by) (λ site. action site (all_moved id ms))
       (to_own_key (is_never items ty) id to)
-      (of_forms.own_dest items q over Does_ Drops Store Coerce May I keeping Says fuel (is_never items ty) id to c d)
+      (pass_frame_heads.own_dest items q over Does_ Drops Store Coerce May I keeping Says fuel (is_never items ty) id to c d)
       acts k
       (innermost (without_operands (keys_of ms)) S) v
       (frame.fine_innermost items q over Does_ Drops Store Coerce May I keeping (without_operands (keys_of ms))

@@ -14,7 +14,7 @@ use Rattle.store_model.specs.Effects as effects
 use Rattle.store_model.specs.Effects.{EffectSite, Operand, Action, Test}
 use Rattle.store_model.specs.Places.Place.{Step, Place, same_step}
 use Rattle.soundness_values.proofs.Checks as checks
-use Rattle.soundness_values.proofs.Checks.{with_naming, with_bounded, with_variant, without_if, listed}
+use Rattle.soundness_values.proofs.Checks.{with_naming, without_if, listed}
 use Rattle.soundness_values.proofs.Facts.{Naming, Facts, Each, each_kept, takes_index, stays, without, same_place, bounded_by}
 use Rattle.soundness_frame.proofs.PassFrameActs.{Takes, AllTake, Allowed, AllowedTest}
 use Rattle.soundness_values.proofs.Steps.{step_same}
@@ -311,27 +311,9 @@ module _ (May : Place → Type 0) where
     pub unwound_kept : (action : Action) (before now : Facts) → Allowed May action → FactsKept before now →
         FactsKept before (checks.after_unwound items local_ty is_target action now)
     unwound_kept (effects.Bounds index length) before now a k = k
-    unwound_kept (effects.Put to from) before now a k = action_kept (effects.Put to from) before now a k
-    unwound_kept (effects.Compare to operator left right) before now a k =
-        action_kept (effects.Compare to operator left right) before now a k
-    unwound_kept (effects.Not to operand) before now a k = action_kept (effects.Not to operand) before now a k
-    unwound_kept (effects.Build to kind parts) before now a k = action_kept (effects.Build to kind parts) before now a k
-    unwound_kept (effects.NewBox to content) before now a k = action_kept (effects.NewBox to content) before now a k
-    unwound_kept (effects.Unsize to trait_no operand) before now a k =
-        action_kept (effects.Unsize to trait_no operand) before now a k
-    unwound_kept (effects.Borrow to unique base) before now a k =
-        action_kept (effects.Borrow to unique base) before now a k
     unwound_kept (effects.Touch base) before now a k = k
-    unwound_kept (effects.Print operand) before now a k = action_kept (effects.Print operand) before now a k
-    unwound_kept (effects.Forget operand) before now a k = action_kept (effects.Forget operand) before now a k
     unwound_kept (effects.Free box) before now a k = k
-    unwound_kept (effects.Compute to operator left right) before now a k =
-        action_kept (effects.Compute to operator left right) before now a k
-    unwound_kept (effects.Negate to operand) before now a k = action_kept (effects.Negate to operand) before now a k
-    unwound_kept (effects.Call to body args) before now a k = action_kept (effects.Call to body args) before now a k
-    unwound_kept (effects.CallVirtual to trait_no method args) before now a k =
-        action_kept (effects.CallVirtual to trait_no method args) before now a k
-    unwound_kept (effects.Ask to) before now a k = action_kept (effects.Ask to) before now a k
+    unwound_kept other before now a k = action_kept other before now a k
 
     pub taken_kept : (test : Test) (before now : Facts) → AllowedTest May test → FactsKept before now →
         FactsKept before (checks.after_taken items local_ty is_target test now)

@@ -24,8 +24,9 @@ use Rattle.soundness_frame.proofs.PassFrameActs.{Takes, AllTake, Allowed, Allowe
 use Rattle.soundness_frame.proofs.PassFrameCells.{Cells, CellsKept, free_keeping}
 use Rattle.soundness_frame.proofs.PassFrameFacts as facts_of
 use Rattle.soundness_frame.proofs.PassFrameFacts.{FactsKept}
+use Rattle.soundness_frame.proofs.PassFrameOperands as pass_frame_operands
 use Rattle.soundness_frame.proofs.PassFrameForms as forms_of
-use Rattle.soundness_frame.proofs.PassFrameForms.{Telling, TellingCalls}
+use Rattle.soundness_frame.proofs.PassFrameHeads.{Telling, TellingCalls}
 use Rattle.soundness_cells.proofs.PassMarks.{Marks, marked, chosen_marked, marked_effects}
 use Rattle.soundness_frame.proofs.PassWithin.{Around, Within, Reaching, Outer, DestIn}
 
@@ -252,7 +253,7 @@ module _ (items : ItemTable) (body : BodyTree) (May : Place → Type 0) (facts :
         (v : Checking Facts) → Known v → Found ((meaning items run fuel n).evaluate around own to S v)
     node_keeps fuel n around loops a w own to d e S v i = found ((meaning items run fuel n).evaluate around own to S v)
         ((forms_of.anywhere items run any_halt any_action any_site May_ May_ May_ Known run_keeping
-        nothing_said fuel nothing_told (forms_of.by_telling items run any_halt any_action any_site May_ May_ May_
+        nothing_said fuel nothing_told (pass_frame_operands.by_telling items run any_halt any_action any_site May_ May_ May_
         Known run_keeping nothing_said fuel no_calls_told)
         (λ aliases loops id key unique base s. tt) n around loops a w own to (d, e)).kept 0 S v
         (none_looked_at S) i)
@@ -262,6 +263,6 @@ module _ (items : ItemTable) (body : BodyTree) (May : Place → Type 0) (facts :
         Found ((meaning items run fuel n).reach around S v)
     reach_keeps fuel n around loops a w S v i = found ((meaning items run fuel n).reach around S v)
         ((forms_of.reached items run any_halt any_action any_site May_ May_ May_ Known run_keeping nothing_said
-        fuel nothing_told (forms_of.by_telling items run any_halt any_action any_site May_ May_ May_ Known
+        fuel nothing_told (pass_frame_operands.by_telling items run any_halt any_action any_site May_ May_ May_ Known
         run_keeping nothing_said fuel no_calls_told)
         n around loops a w).kept 0 S v (none_looked_at S) i)

@@ -194,28 +194,9 @@ module _ (May : Place → Type 0) where
         FactsStay before now →
         FactsStay before (checks.after_unwound items local_ty is_target action now)
     unwound_kept (effects.Bounds index length) before now a c k = k
-    unwound_kept (effects.Put to from) before now a c k = action_kept (effects.Put to from) before now a c k
-    unwound_kept (effects.Compare to operator left right) before now a c k =
-        action_kept (effects.Compare to operator left right) before now a c k
-    unwound_kept (effects.Not to operand) before now a c k = action_kept (effects.Not to operand) before now a c k
-    unwound_kept (effects.Build to kind parts) before now a c k =
-        action_kept (effects.Build to kind parts) before now a c k
-    unwound_kept (effects.NewBox to content) before now a c k = action_kept (effects.NewBox to content) before now a c k
-    unwound_kept (effects.Unsize to trait_no operand) before now a c k =
-        action_kept (effects.Unsize to trait_no operand) before now a c k
-    unwound_kept (effects.Borrow to unique base) before now a c k =
-        action_kept (effects.Borrow to unique base) before now a c k
     unwound_kept (effects.Touch base) before now a c k = k
-    unwound_kept (effects.Print operand) before now a c k = action_kept (effects.Print operand) before now a c k
-    unwound_kept (effects.Forget operand) before now a c k = action_kept (effects.Forget operand) before now a c k
     unwound_kept (effects.Free box) before now a c k = k
-    unwound_kept (effects.Compute to operator left right) before now a c k =
-        action_kept (effects.Compute to operator left right) before now a c k
-    unwound_kept (effects.Negate to operand) before now a c k = action_kept (effects.Negate to operand) before now a c k
-    unwound_kept (effects.Call to body args) before now a c k = action_kept (effects.Call to body args) before now a c k
-    unwound_kept (effects.CallVirtual to trait_no method args) before now a c k =
-        action_kept (effects.CallVirtual to trait_no method args) before now a c k
-    unwound_kept (effects.Ask to) before now a c k = action_kept (effects.Ask to) before now a c k
+    unwound_kept other before now a c k = action_kept other before now a c k
 
     pub taken_kept : (test : Test) (before now : Facts) → AllowedTest May test → FactsStay before now →
         FactsStay before (checks.after_taken items local_ty is_target test now)

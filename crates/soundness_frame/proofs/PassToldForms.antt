@@ -1,16 +1,14 @@
 -- What a node changes lies within what may be changed, if the accesses that are told of it allow that: one line a form.
-use Rattle.std.proofs.Common.{◌≡◌, inl, inr, ℕ, ◌<◌, ◌==◌, ◌&&◌, not, Bool, true, false, List, [], ◌∷◌, ◌++◌, length, slice_get, Option, Some, None, if◌then◌else◌, refl, ap, sym, subst, arith}
-use Rattle.std.specs.Prelude.{option_map, option_and_then}
-use Rattle.std.specs.Option.{option_map_or}
+use Rattle.std.proofs.Common.{◌≡◌, ℕ, ◌==◌, ◌&&◌, not, true, false, List, [], ◌∷◌, ◌++◌, length, slice_get, Option, if◌then◌else◌, refl, ap, subst}
+use Rattle.std.specs.Prelude.{option_map}
 use Rattle.std.specs.List.{filter_map}
 use Rattle.std.proofs.lemmas.Bool.{false≢true}
 use Rattle.mir_base.specs.declared.place_in_text.Pos.{Pos}
-use Rattle.mir_ty.specs.declared.ty.Ty.{Ty}
 use Rattle.mir_ty.specs.declared.ty.TyId.{TyId}
-use Rattle.mir_ty.specs.ItemTable.{ItemTable, type_at}
+use Rattle.mir_ty.specs.ItemTable.{ItemTable}
 use Rattle.store_model.specs.Places.Place.{Place, whole_local}
 use Rattle.typed_tree.specs.declared.node.Use.{Use}
-use Rattle.typed_tree.specs.Nodes.{number_of, nodes_of, nodes_in, nodes_among, nodes_of_fields, nodes_if_any}
+use Rattle.typed_tree.specs.Nodes.{nodes_of, nodes_in, nodes_among, nodes_of_fields, nodes_if_any}
 use Rattle.typed_tree.specs.Tree as tree
 use Rattle.typed_tree.specs.Tree.{Node, node, Form, Nodes, no_node, a_node, Fields, no_field, a_field, MaybeNode, absent, present}
 use Rattle.src_meaning.specs.Forms as forms
@@ -18,45 +16,30 @@ use Rattle.src_meaning.specs.Locals.OfBody.{is_place_form}
 use Rattle.src_meaning.specs.Shape as shapes
 use Rattle.src_meaning.specs.Shape.{head, shape, shape_of, operand_at}
 use Rattle.typing_rules.specs.Accesses as rules
-use Rattle.typing_rules.specs.Accesses.{AccessPlace, Accessed, CollectedAccesses, ◌⊕◌, told, told_form, inside, place_of, root_of, bound, changes, replaces, own_access, access_by, accesses_of, one, told_all, told_fields, told_maybe, told_arms, told_guard, arguments, all_told, receiver_of, conflicting, conflicts_among, against_guard}
+use Rattle.typing_rules.specs.Accesses.{◌⊕◌, told, told_form, inside, place_of, root_of, bound, changes, replaces, own_access, access_by, accesses_of, one, told_all, told_fields, told_arms, told_guard, arguments, all_told, receiver_of, conflicting, conflicts_among, against_guard}
 use Rattle.well_typed.specs.Claim.{Holds, fact, both, some}
 use Rattle.well_typed.specs.Nodes as typing
 use Rattle.well_typed.specs.Patterns as patterns
-use Rattle.well_typed.specs.Patterns.{Matched, entries_of}
-use Rattle.well_typed.specs.Places.{InScope, LoopAround, Context, loop_with, in_guard, Standing, Taken, Wanted, Passed, Base, Used, Stored, stands, form_of, ty_of, borrow_by}
+use Rattle.well_typed.specs.Patterns.{entries_of}
+use Rattle.well_typed.specs.Places.{LoopAround, Context, loop_with, in_guard, Standing, Taken, Wanted, Passed, Base, Used, Stored, ty_of, borrow_by}
 use Rattle.well_typed.specs.Types as types
 use Rattle.soundness_values.proofs.NoOverlap.{node_seen}
 use Rattle.soundness_cells.proofs.PassFacts.{Standpoint, context, with_names, in_a_loop, beside, right}
 use Rattle.soundness_frame.proofs.PassFrameActs.{Takes}
-use Rattle.soundness_cells.proofs.PassCells.{Above, NodeIn, above_in, rising}
-use Rattle.soundness_frame.proofs.PassKeys.{Keys, keys_more, place_keys}
+use Rattle.soundness_cells.proofs.PassCells.{Above}
+use Rattle.soundness_frame.proofs.PassKeys.{Keys, keys_more}
 use Rattle.soundness_frame.proofs.PassTold as here
-use Rattle.soundness_frame.proofs.PassTold.{ids, IsValue, KnownOf, StandsFor, Here, Told, named_loop, root_unnamed, no_append}
+use Rattle.soundness_frame.proofs.PassTold.{ids, IsValue, KnownOf, StandsFor, Here, Told, named_loop}
 use Rattle.soundness_frame.proofs.PassToldPatterns as told_patterns
-use Rattle.soundness_frame.proofs.PassToldPatterns.{name_left, accessed, bound_named, bound_name, bounds_alike, seen_with, unnamed_with}
+use Rattle.soundness_frame.proofs.PassToldPatterns.{name_left}
 use Rattle.soundness_frame.proofs.PassToldPlaces as told_places
-use Rattle.soundness_frame.proofs.PassToldPlaces.{Rises, name_above, no_name, name_entry, found_in, marked, still_there, Unnamed, Permits, AllPermit, Sees, Past}
+use Rattle.soundness_frame.proofs.PassToldPlaces.{name_above}
 use Rattle.soundness_frame.proofs.PassWithin as within
 use Rattle.soundness_frame.proofs.PassWithin.{is_among, if_place, Outer}
 use Rattle.soundness_values.proofs.PlaceTypes.{some_holds}
 use Rattle.soundness_frame.proofs.PassToldParts as told_parts
-use Rattle.soundness_frame.proofs.PassToldParts.{receiver_told, argument_told}
-
--- what is said of a call, a borrow or an assignment is known where such a node stands
-abbrev pub Saying : (items : ItemTable) (May : Place → Type 0) (Of : KnownOf)
-    (Says : shapes.Aliases → Outer → ℕ → Form → Type 0) → Type 0
-Saying items May Of Says = (form : Form) (id : ℕ) (at : Pos) (ty : TyId) (by : Option Use) (aliases : rules.Aliases)
-    (places : shapes.Aliases) (x : Standpoint) → Here items May Of aliases places x (nodes_of (node id at ty by form)) →
-    Here items May Of aliases places x (nodes_in form) → Holds (typing.row (context items x) id ty form) →
-    Told items May Of aliases (told_form aliases at form) →
-    Says places (ids x) id form
-
--- a node has a number below those behind
-pub node_above : (a b : List Node) (m : Node) → Rises (a ++ b) → NodeIn a m → Above (number_of m) b
-node_above [] b m r i = absurd i
-node_above (n ∷ a) b m r (inl e) =
-    subst (λ k. Above k b) (ap number_of e) (told_places.above_right (number_of n) a b (rising n (a ++ b) r).0)
-node_above (n ∷ a) b m r (inr i) = node_above a b m (rising n (a ++ b) r).1 i
+use Rattle.soundness_frame.proofs.PassToldParts.{argument_told}
+use Rattle.soundness_frame.proofs.PassToldBelow.{Saying, loose, plain_operand, loose_wanted, scrutinee_below, scrutinee_off, said}
 
 module _ (items : ItemTable) (May : Place → Type 0) (Of : KnownOf)
     (Says : shapes.Aliases → Outer → ℕ → Form → Type 0)
@@ -66,99 +49,6 @@ module _ (items : ItemTable) (May : Place → Type 0) (Of : KnownOf)
 
   abbrev W : shapes.Aliases → Outer → Node → Type 0
   W = within.Within items May Says
-
-  -- a node whose value is used for no parameter is no borrow
-  taken_loose : (form : Form) (id : ℕ) (at : Pos) (ty : TyId) (by : Option Use) (x : Standpoint) →
-      Holds (stands (K x) Taken ty by form) → within.Loose (node id at ty by form)
-  taken_loose (tree.Borrow unique base) id at ty by x h =
-      absurd (false≢true (right (Rattle.std.specs.Prelude.is_none by) false h))
-  taken_loose form id at ty by x h = refl
-
-  loose : (n : Node) (x : Standpoint) → Holds (typing.typed (K x) Taken n) → within.Loose n
-  loose (node id at ty by form) x h = taken_loose form id at ty by x h.0
-
-  -- what is coerced is a box, and made by a node that hands its destination to no other
-  no_bool : (o : Option Ty) (trait_no : ℕ) → option_map_or types.is_bool_ty o false ≡ true →
-      option_map_or (λ adt. types.implements items adt trait_no)
-      (option_and_then (types.adt_of items) (option_and_then types.boxed_in o)) false ≡ true → ⊥
-  no_bool None trait_no b h = false≢true b
-  no_bool (Some Ty.Bool) trait_no b h = false≢true h
-  no_bool (Some ty) trait_no b h = false≢true b
-
-  no_unit : (o : Option Ty) (trait_no : ℕ) → option_map_or types.is_unit_ty o false ≡ true →
-      option_map_or (λ adt. types.implements items adt trait_no)
-      (option_and_then (types.adt_of items) (option_and_then types.boxed_in o)) false ≡ true → ⊥
-  no_unit None trait_no b h = false≢true b
-  no_unit (Some Ty.Unit) trait_no b h = false≢true h
-  no_unit (Some ty) trait_no b h = false≢true b
-
-  plain_form : (form : Form) (id : ℕ) (ty to : TyId) (trait_no : ℕ) (x : Standpoint) →
-      Holds (typing.row (K x) id ty form) → typing.is_leaf form ≡ true →
-      typing.box_implements items to ty trait_no ≡ true → within.carries form ≡ false
-  plain_form (tree.And a b) id ty to trait_no x h l k =
-      absurd (no_bool (type_at items ty) trait_no h.1.1.1.1 (right _ _ k))
-  plain_form (tree.Or a b) id ty to trait_no x h l k =
-      absurd (no_bool (type_at items ty) trait_no h.1.1.1.1 (right _ _ k))
-  plain_form (tree.While test body) id ty to trait_no x h l k =
-      absurd (no_unit (type_at items ty) trait_no h.1.1.1.1 (right _ _ k))
-  plain_form (tree.WhileLet p s body) id ty to trait_no x h l k =
-      absurd (no_unit (type_at items ty) trait_no h.1.1.1.1 (right _ _ k))
-  plain_form (tree.Block stmts tail) id ty to trait_no x h l k = absurd (false≢true l)
-  plain_form (tree.If test body otherwise) id ty to trait_no x h l k = absurd (false≢true l)
-  plain_form (tree.IfLet p s body otherwise) id ty to trait_no x h l k = absurd (false≢true l)
-  plain_form (tree.Match s ns) id ty to trait_no x h l k = absurd (false≢true l)
-  plain_form (tree.Loop body) id ty to trait_no x h l k = absurd (false≢true l)
-  plain_form form id ty to trait_no x h l k = refl
-
-  plain_operand : (n : Node) (to : TyId) (trait_no : ℕ) (x : Standpoint) → Holds (typing.typed (K x) Taken n) →
-      typing.is_leaf (form_of n) ≡ true → typing.box_implements items to (ty_of n) trait_no ≡ true →
-      within.carries (form_of n) ≡ false
-  plain_operand (node id at ty by form) to trait_no x h l k = plain_form form id ty to trait_no x h.1 l k
-
-  loose_wanted : (n : Node) (want : TyId) (x : Standpoint) → Holds (typing.typed (K x) (Wanted want) n) → within.Loose n
-  loose_wanted (node id at ty by form) want x h = taken_loose form id at ty by x h.0.0
-
-  -- the place of a scrutinee is one before the nodes behind
-  pub scrutinee_below : (s : Node) (ns : List Node) (aliases : rules.Aliases) (places : shapes.Aliases) (x : Standpoint)
-      (standing : Standing) → Here items May Of aliases places x (nodes_of s ++ ns) →
-      Holds (typing.typed (K x) standing s) → Keys (λ k. Above k ns) ((shape items s).place places)
-  scrutinee_below s ns aliases places x standing g h = place_keys (λ k. Above k ns) items places x
-      (here.here_right items May Of aliases places x (nodes_of s) ns g).low
-      (λ y e. closure_below y e (told_places.is_alias aliases y.key) refl) s standing h
-      (λ m i. node_above (nodes_of s) ns m g.rises i)
-    where
-      closure_below : (y : InScope) → x.closure ≡ Some y → (b : Bool) → told_places.is_alias aliases y.key ≡ b →
-          Keys (λ k. Above k ns) (shapes.place_of_key y.key places)
-      closure_below y e true a = absurd (g.sees.closure y e a)
-      closure_below y e false a = subst (Keys (λ k. Above k ns)) (sym (g.sees.plain y.key a))
-          ((here.here_right items May Of aliases places x (nodes_of s) ns g).outer y e, tt)
-
-  -- it has none of the keys of cells around
-  pub scrutinee_off : (s : Node) (ns : List Node) (aliases : rules.Aliases) (places : shapes.Aliases) (x : Standpoint)
-      (standing : Standing) → Here items May Of aliases places x (nodes_of s ++ ns) →
-      Holds (typing.typed (K x) standing s) → (d : ℕ) → is_among d x.outside ≡ true →
-      Keys (λ k. k ≡ d → ⊥) ((shape items s).place places)
-  scrutinee_off s ns aliases places x standing g h d i = place_keys (λ k. k ≡ d → ⊥) items places x (g.away d i).names
-      (λ y e. of_closure y e (told_places.is_alias aliases y.key) refl) s standing h
-      (λ m j e.
-      let less : d < number_of m = above_in d (nodes_of s) m
-      ((here.here_left items May Of aliases places x (nodes_of s) ns g).under d i) j in
-      let same : number_of m ≡ d = e in
-      let never : ⊥ = omega (less, same, arith) in never)
-    where
-      of_closure : (y : InScope) → x.closure ≡ Some y → (b : Bool) → told_places.is_alias aliases y.key ≡ b →
-          Keys (λ k. k ≡ d → ⊥) (shapes.place_of_key y.key places)
-      of_closure y e true a = absurd (g.sees.closure y e a)
-      of_closure y e false a = subst (Keys (λ k. k ≡ d → ⊥)) (sym (g.sees.plain y.key a)) ((g.away d i).self y e, tt)
-
-  -- what is said of a form, where it stands
-  said : (form : Form) (id : ℕ) (at : Pos) (ty : TyId) (by : Option Use) (aliases : rules.Aliases)
-      (places : shapes.Aliases) (x : Standpoint) → Here items May Of aliases places x (nodes_of (node id at ty by form))
-      →
-      Holds (typing.row (K x) id ty form) → Told items May Of aliases (told_form aliases at form) →
-      Says places (ids x) id form
-  said form id at ty by aliases places x o h t = says form id at ty by aliases places x o
-      (here.here_in items May Of aliases places x (node id at ty by form) (nodes_in form) o) h t
 
   -- ---- the forms
 
@@ -247,7 +137,7 @@ module _ (items : ItemTable) (May : Place → Type 0) (Of : KnownOf)
           (here.here_left items May Of aliases places (beside id x) (nodes_of left) (nodes_of right) g) h.0
           (here.told_left items May Of aliases (told aliases left) (told aliases right) t),
       (
-        loose right (beside id x) h.1.0,
+        loose items May Of Says says right (beside id x) h.1.0,
         node_within right Taken aliases places (beside id x) tt
             (here.here_right items May Of aliases places (beside id x) (nodes_of left) (nodes_of right) g) h.1.0
             (here.told_right items May Of aliases (told aliases left) (told aliases right) t),
@@ -258,7 +148,7 @@ module _ (items : ItemTable) (May : Place → Type 0) (Of : KnownOf)
           (here.here_left items May Of aliases places (beside id x) (nodes_of left) (nodes_of right) g) h.0
           (here.told_left items May Of aliases (told aliases left) (told aliases right) t),
       (
-        loose right (beside id x) h.1.0,
+        loose items May Of Says says right (beside id x) h.1.0,
         node_within right Taken aliases places (beside id x) tt
             (here.here_right items May Of aliases places (beside id x) (nodes_of left) (nodes_of right) g) h.1.0
             (here.told_right items May Of aliases (told aliases left) (told aliases right) t),
@@ -281,7 +171,7 @@ module _ (items : ItemTable) (May : Place → Type 0) (Of : KnownOf)
                   (here.told_right items May Of aliases (inside aliases place) store rest).0.0 refl refl refl refl,
             ),
           )),
-          said (tree.Assign place value) id at ty by aliases places x o h t,
+          said items May Of Says says (tree.Assign place value) id at ty by aliases places x o h t,
         )
     form_within (tree.Call body args) id at ty by aliases places x o g h t =
         let s = some_holds (slice_get items.bodies body)
@@ -289,7 +179,7 @@ module _ (items : ItemTable) (May : Place → Type 0) (Of : KnownOf)
           (args_within args s.0.params aliases places (beside id x) g s.1.1.1
               (here.told_left items May Of aliases (all_told (arguments aliases args))
               (conflicting (conflicts_among (arguments aliases args))) t)),
-          said (tree.Call body args) id at ty by aliases places x o h t,
+          said items May Of Says says (tree.Call body args) id at ty by aliases places x o h t,
         )
     form_within (tree.MethodCall body receiver args) id at ty by aliases places x o g h t =
         let s = some_holds (slice_get items.bodies body) (λ sig. both (fact (types.is_same ty sig.result))
@@ -307,7 +197,7 @@ module _ (items : ItemTable) (May : Place → Type 0) (Of : KnownOf)
               (told_parts.receiver_left items May Of Says receiver aliases (all_told (arguments aliases args)) u))
               (λ ts g2 h2. args_within args ts aliases places (beside id x) g2 h2
               (here.told_right items May Of aliases c (all_told (arguments aliases args)) u))),
-          said (tree.MethodCall body receiver args) id at ty by aliases places x o h t,
+          said items May Of Says says (tree.MethodCall body receiver args) id at ty by aliases places x o h t,
         )
     form_within (tree.VirtualCall trait_no method receiver args) id at ty by aliases places x o g h t =
         let d = some_holds (slice_get items.traits trait_no) (λ def. some (slice_get def.methods method)
@@ -330,7 +220,7 @@ module _ (items : ItemTable) (May : Place → Type 0) (Of : KnownOf)
               (told_parts.receiver_left items May Of Says receiver aliases (all_told (arguments aliases args)) u))
               (λ ts g2 h2. args_within args ts aliases places (beside id x) g2 h2
               (here.told_right items May Of aliases c (all_told (arguments aliases args)) u))),
-          said (tree.VirtualCall trait_no method receiver args) id at ty by aliases places x o h t,
+          said items May Of Says says (tree.VirtualCall trait_no method receiver args) id at ty by aliases places x o h t,
         )
     form_within (tree.ClosureCall body callee args) id at ty by aliases places x o g h t =
         let s = some_holds (slice_get items.bodies body) (λ sig. both (fact (types.is_same ty sig.result))
@@ -345,7 +235,7 @@ module _ (items : ItemTable) (May : Place → Type 0) (Of : KnownOf)
               (here.told_left items May Of aliases (all_told (arguments aliases args))
               (conflicting (conflicts_among (arguments aliases args)))
               (here.told_right items May Of aliases (told aliases callee) passed t)))),
-          said (tree.ClosureCall body callee args) id at ty by aliases places x o h t,
+          said items May Of Says says (tree.ClosureCall body callee args) id at ty by aliases places x o h t,
         )
     form_within (tree.Make adt variant fields) id at ty by aliases places x o g h t =
         let s = some_holds (types.variant_at items adt variant) (λ v. both
@@ -396,11 +286,11 @@ module _ (items : ItemTable) (May : Place → Type 0) (Of : KnownOf)
               at = at;
             }) g h.0 p (ap changes e) (ap replaces e) refl refl),
       ),
-      said (tree.Borrow unique base) id at ty by aliases places x o h t,
+      said items May Of Says says (tree.Borrow unique base) id at ty by aliases places x o h t,
     )
     form_within (tree.Unsize trait_no operand) id at ty by aliases places x o g h t = (
-      (loose operand (beside id x) h.0, node_within operand Taken aliases places (beside id x) tt g h.0 t),
-      plain_operand operand ty trait_no (beside id x) h.0 h.1.0 h.1.1,
+      (loose items May Of Says says operand (beside id x) h.0, node_within operand Taken aliases places (beside id x) tt g h.0 t),
+      plain_operand items May Of Says says operand ty trait_no (beside id x) h.0 h.1.0 h.1.1,
     )
     form_within (tree.Block stmts absent) id at ty by aliases places x o g h t =
         block_within stmts absent aliases places (beside id x) g h.0 (λ y g2 h2. tt)
@@ -408,7 +298,7 @@ module _ (items : ItemTable) (May : Place → Type 0) (Of : KnownOf)
     form_within (tree.Block stmts (present tail)) id at ty by aliases places x o g h t =
         block_within stmts (present tail) aliases places (beside id x) g h.0
         (λ y g2 h2. (
-          loose tail y h2,
+          loose items May Of Says says tail y h2,
           node_within tail Taken aliases places y tt g2 h2
               (here.told_right items May Of aliases (told_all aliases stmts) (told aliases tail) t),
         ))
@@ -423,7 +313,7 @@ module _ (items : ItemTable) (May : Place → Type 0) (Of : KnownOf)
               (here.told_left items May Of aliases (told aliases c) (told aliases body ⊕ rules.quiet) t),
           (
             (
-              loose body (beside id x) h.1.1.0,
+              loose items May Of Says says body (beside id x) h.1.1.0,
               node_within body Taken aliases places (beside id x) tt
                   (here.here_right items May Of aliases places (beside id x) (nodes_of c) (nodes_of body) g2) h.1.1.0
                   (here.told_left items May Of aliases (told aliases body) rules.quiet t2),
@@ -441,13 +331,13 @@ module _ (items : ItemTable) (May : Place → Type 0) (Of : KnownOf)
               (here.told_left items May Of aliases (told aliases c) (told aliases body ⊕ told aliases otherwise) t),
           (
             (
-              loose body (beside id x) h.1.1.0,
+              loose items May Of Says says body (beside id x) h.1.1.0,
               node_within body Taken aliases places (beside id x) tt
                   (here.here_right items May Of aliases places (beside id x) (nodes_of c) (nodes_of body) g2) h.1.1.0
                   (here.told_left items May Of aliases (told aliases body) (told aliases otherwise) t2),
             ),
             (
-              loose otherwise (beside id x) h.1.1.1.0,
+              loose items May Of Says says otherwise (beside id x) h.1.1.1.0,
               node_within otherwise Taken aliases places (beside id x) tt
                   (here.here_right items May Of aliases places (beside id x) (nodes_of c ++ nodes_of body) (nodes_of
                   otherwise) g)
@@ -469,7 +359,7 @@ module _ (items : ItemTable) (May : Place → Type 0) (Of : KnownOf)
         (here.told_left items May Of aliases (told aliases body) rules.quiet
         (here.told_right items May Of aliases (rules.of_scrutinee aliases p s) (told aliases body ⊕ rules.quiet) t1)))
         in
-        (m.0, ((loose body (with_names (entries_of p) (beside id x)) h.1.1.0, m.1), tt))
+        (m.0, ((loose items May Of Says says body (with_names (entries_of p) (beside id x)) h.1.1.0, m.1), tt))
     form_within (tree.IfLet p s body (present otherwise)) id at ty by aliases places x o g h t =
         let g3 = here.here_left items May Of aliases places (beside id x) (nodes_of p ++ nodes_of s ++ nodes_of body)
         (nodes_of otherwise) g in
@@ -485,9 +375,9 @@ module _ (items : ItemTable) (May : Place → Type 0) (Of : KnownOf)
         (here.told_left items May Of aliases (told aliases body) (told aliases otherwise) t2)) in (
           m.0,
           (
-            (loose body (with_names (entries_of p) (beside id x)) h.1.1.0, m.1),
+            (loose items May Of Says says body (with_names (entries_of p) (beside id x)) h.1.1.0, m.1),
             (
-              loose otherwise (beside id x) h.1.1.1.0,
+              loose items May Of Says says otherwise (beside id x) h.1.1.1.0,
               node_within otherwise Taken aliases places (beside id x) tt
                   (here.here_right items May Of aliases places (beside id x) (nodes_of p ++ nodes_of s ++ nodes_of body)
                   (nodes_of otherwise) g)
@@ -499,11 +389,11 @@ module _ (items : ItemTable) (May : Place → Type 0) (Of : KnownOf)
         let g_s = here.here_left items May Of aliases places (beside id x) (nodes_of s) (nodes_among arms) g in (
           used_reached s (Used Use.Borrow) aliases places (beside id x) g_s h.0
               (here.told_left items May Of aliases (told aliases s) (told_arms aliases (place_of aliases s) arms) t),
-          arms_within arms s aliases places (beside id x) (scrutinee_below s (nodes_among arms) aliases places (beside
+          arms_within arms s aliases places (beside id x) (scrutinee_below items May Of Says says s (nodes_among arms) aliases places (beside
               id x)
               (Used Use.Borrow) g h.0)
               (here.place_stands items May Of s (Used Use.Borrow) aliases places (beside id x) g_s h.0)
-              (scrutinee_off s (nodes_among arms) aliases places (beside id x) (Used Use.Borrow) g h.0)
+              (scrutinee_off items May Of Says says s (nodes_among arms) aliases places (beside id x) (Used Use.Borrow) g h.0)
               (here.here_right items May Of aliases places (beside id x) (nodes_of s) (nodes_among arms) g) g_s.owned
               h.0 h.1.0
               (here.told_right items May Of aliases (told aliases s) (told_arms aliases (place_of aliases s) arms) t),
@@ -546,13 +436,13 @@ module _ (items : ItemTable) (May : Place → Type 0) (Of : KnownOf)
         value)) h.0 in (
           named_loop loop (beside id x).loops s.0 s.1.0,
           (
-            loose_wanted value s.0.ty (beside id x) s.1.1.1,
+            loose_wanted items May Of Says says value s.0.ty (beside id x) s.1.1.1,
             node_within value (Wanted s.0.ty) aliases places (beside id x) tt g s.1.1.1 t,
           ),
         )
     form_within (tree.Return absent) id at ty by aliases places x o g h t = tt
     form_within (tree.Return (present value)) id at ty by aliases places x o g h t = (
-      loose_wanted value (beside id x).answer (beside id x) h.0,
+      loose_wanted items May Of Says says value (beside id x).answer (beside id x) h.0,
       node_within value (Wanted (beside id x).answer)
           aliases places (beside id x) tt g h.0 t,
     )
@@ -699,7 +589,7 @@ module _ (items : ItemTable) (May : Place → Type 0) (Of : KnownOf)
                 ((shape items s).place places) below) r off g2 k.1.1.1.0 (here.told_left items May Of aliases guarded
                 rest t),
             (
-              loose body (with_names (entries_of p) x) k.1.1.1.1.0,
+              loose items May Of Says says body (with_names (entries_of p) x) k.1.1.1.1.0,
               node_within body Taken aliases places (with_names (entries_of p) x) tt
                   (here.here_names items May Of aliases places x p (nodes_of body) g_p.past
                   (λ key i. name_above (nodes_of p ++ nodes_if_any guard) (nodes_of body) key g.rises
@@ -798,7 +688,7 @@ module _ (items : ItemTable) (May : Place → Type 0) (Of : KnownOf)
           (
             g.owned.0 [],
             (
-              loose_wanted value pty x h.0,
+              loose_wanted items May Of Says says value pty x h.0,
               node_within value (Wanted pty) aliases places (beside pid (beside id x)) tt
                   (here.here_beside items May Of aliases places (beside id x)
                   (node pid pat pty pby (tree.Binding name)) (nodes_of value) g) h.0

@@ -102,59 +102,8 @@ name_entry (node id at ty by form ∷ ns) key i = by_form form i (λ j. name_ent
     by_form : (form : Form) → (IsName form × (id ≡ key)) ⊎ NameIn ns key → (NameIn ns key → Entry ns) →
         Entry (node id at ty by form ∷ ns)
     by_form (tree.Binding name) i later = found (id == key) refl i later
-    by_form (tree.Number value) (inr i) later = later i
-    by_form (tree.Truth value) (inr i) later = later i
-    by_form tree.UnitValue (inr i) later = later i
-    by_form (tree.Variable k) (inr i) later = later i
-    by_form (tree.Captured closure part name) (inr i) later = later i
-    by_form (tree.Field base part) (inr i) later = later i
-    by_form (tree.Index base index length) (inr i) later = later i
-    by_form (tree.Deref base) (inr i) later = later i
-    by_form (tree.Not operand) (inr i) later = later i
-    by_form (tree.Negate operand) (inr i) later = later i
-    by_form (tree.Arithmetic operator a b) (inr i) later = later i
-    by_form (tree.Comparison operator a b) (inr i) later = later i
-    by_form (tree.And a b) (inr i) later = later i
-    by_form (tree.Or a b) (inr i) later = later i
-    by_form (tree.Assign place value) (inr i) later = later i
-    by_form (tree.Call body args) (inr i) later = later i
-    by_form (tree.MethodCall body receiver args) (inr i) later = later i
-    by_form (tree.VirtualCall trait_no method receiver args) (inr i) later = later i
-    by_form (tree.ClosureCall body callee args) (inr i) later = later i
-    by_form (tree.Make adt variant fields) (inr i) later = later i
-    by_form (tree.Tuple parts) (inr i) later = later i
-    by_form (tree.Array elements) (inr i) later = later i
-    by_form (tree.Closure closure captures) (inr i) later = later i
-    by_form (tree.NewBox content) (inr i) later = later i
-    by_form (tree.Print operand) (inr i) later = later i
-    by_form tree.Ask (inr i) later = later i
-    by_form (tree.DropValue operand) (inr i) later = later i
-    by_form (tree.Forget operand) (inr i) later = later i
-    by_form tree.Panic (inr i) later = later i
-    by_form (tree.Borrow unique base) (inr i) later = later i
-    by_form (tree.Unsize trait_no operand) (inr i) later = later i
-    by_form (tree.Block statements tail) (inr i) later = later i
-    by_form (tree.Let pattern initialiser) (inr i) later = later i
-    by_form (tree.Evaluate expression) (inr i) later = later i
-    by_form (tree.If condition body otherwise) (inr i) later = later i
-    by_form (tree.IfLet pattern scrutinee body otherwise) (inr i) later = later i
-    by_form (tree.Match scrutinee arms) (inr i) later = later i
-    by_form (tree.Arm pattern guard body) (inr i) later = later i
-    by_form (tree.Loop body) (inr i) later = later i
-    by_form (tree.While condition body) (inr i) later = later i
-    by_form (tree.WhileLet pattern scrutinee body) (inr i) later = later i
-    by_form (tree.Break loop value) (inr i) later = later i
-    by_form (tree.Continue loop) (inr i) later = later i
-    by_form (tree.Return value) (inr i) later = later i
-    by_form tree.Wildcard (inr i) later = later i
-    by_form (tree.NumberPattern value) (inr i) later = later i
-    by_form (tree.TruthPattern value) (inr i) later = later i
-    by_form (tree.StructPattern fields) (inr i) later = later i
-    by_form (tree.VariantPattern variant is_test fields) (inr i) later = later i
-    by_form (tree.TuplePattern parts) (inr i) later = later i
-    by_form (tree.ArrayPattern elements) (inr i) later = later i
-    by_form (tree.OrPattern alternatives) (inr i) later = later i
     by_form form (inl i) later = absurd i.0
+    by_form other (inr i) later = later i
 
 -- ---- entries, the new ones first
 

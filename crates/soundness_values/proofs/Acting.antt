@@ -1,44 +1,37 @@
 -- Actions of a checked run: each whose tests hold follows that of a free run. It takes no choice where it cannot
 -- panic, and else 0 where it goes on and 1 where it panics.
-use Rattle.std.proofs.Common.{◌≡◌, ◌⊎◌, inl, inr, ℕ, suc, ℤ, ◌==◌, ◌&&◌, ◌||◌, not, Bool, true, false, List, [], ◌∷◌, ◌++◌, length, Option, Some, None, is_some, refl, ap, sym, ◌∙◌, subst}
-use Rattle.std.specs.Prelude.{slice_get, option_and_then, replicate}
+use Rattle.std.proofs.Common.{◌≡◌, ℕ, ℤ, Bool, true, false, List, [], ◌∷◌, Option, Some, None, refl, ap, sym, ◌∙◌, subst}
+use Rattle.std.specs.Prelude.{slice_get, option_and_then}
 use Rattle.std.specs.Option.{option_map_or}
 use Rattle.std.proofs.lemmas.Bool.{false≢true}
 use Rattle.std.proofs.lemmas.Bool.Decides.{Decides-eqb}
-use Rattle.std.proofs.lemmas.Option.{none-some}
 use Rattle.mir_base.specs.declared.int_kind.IntKind.{IntKind}
-use Rattle.mir_base.specs.declared.operator.Cmp.{Cmp}
-use Rattle.mir_base.specs.declared.trace.Event.{Event}
 use Rattle.mir_ty.specs.declared.ty.Ty.{Ty}
 use Rattle.mir_ty.specs.declared.ty.TyId.{TyId}
 use Rattle.mir_ty.specs.ItemTable.{ItemTable, type_at}
 use Rattle.store_model.proofs.Effects.Following.{Relation}
 use Rattle.store_model.specs.declared.address.Addr.{Addr}
-use Rattle.store_model.specs.Values.Datum.{Datum, Gone, Number, Truth, UnitValue, Aggregate, Box, Address}
-use Rattle.store_model.specs.Effects as effects
-use Rattle.store_model.specs.Effects.{EffectSite, Operand, Action, Halt, Stuck, Unreachable, Out, Go, Unwind, Halts, on_go, halting_if}
+use Rattle.store_model.specs.Values.Datum.{Datum, Number, Truth, UnitValue}
+use Rattle.store_model.specs.Effects.{EffectSite, Operand, Halt, Stuck, Unreachable, Out, Go, Unwind, Halts, on_go, halting_if}
 use Rattle.store_model.specs.Abstract.Effects as free
 use Rattle.store_model.specs.Abstract.Effects.{AbstractState, operand_used, operands_used}
 use Rattle.store_model.specs.Abstract.Presence.{Presence, is_present}
-use Rattle.store_model.specs.Places.Place.{Place, place_ty}
-use Rattle.store_model.specs.Places.TypeForms.{same_id, is_never, is_bool, is_int, int_kind, are_compared, same_int, same_kind}
+use Rattle.store_model.specs.Places.Place.{place_ty}
+use Rattle.store_model.specs.Places.TypeForms.{same_id, is_never, is_bool, is_int, int_kind}
 use Rattle.store_model.specs.Concrete.Effects as values
-use Rattle.store_model.specs.Concrete.Effects.{or_stuck, evaluate_operand, evaluate_operands, put, put_if, compared, negated, body_of_youngest}
+use Rattle.store_model.specs.Concrete.Effects.{or_stuck, evaluate_operand}
 use Rattle.store_model.specs.Concrete.Location.{Setting, OfType}
-use Rattle.store_model.specs.Concrete.State.{State, Activation, Bodies, with_event, numbered_next}
-use Rattle.soundness_values.proofs.Doing.{FollowsOut, goes_on, unwinds, lapsed, refused, out_after}
+use Rattle.store_model.specs.Concrete.State.{State, Activation}
+use Rattle.soundness_values.proofs.Doing.{FollowsOut, out_after}
 use Rattle.soundness_values.specs.Typed.{number_fits}
 use Rattle.soundness_values.proofs.Fits.{Fits}
 use Rattle.soundness_values.proofs.Forms.{truth_of, number_of}
-use Rattle.soundness_values.proofs.Facts.{Facts, without}
+use Rattle.soundness_values.proofs.Facts.{Facts}
 use Rattle.soundness_values.proofs.Dropped.{feeding}
-use Rattle.soundness_values.proofs.Known.{Target, Known}
-use Rattle.soundness_values.proofs.Running.{sure_place, Passed, Runs, Holding}
-use Rattle.soundness_values.proofs.Changing.{runs_alike}
-use Rattle.soundness_values.proofs.Checks.{id_of, ty_of, is_of, form_of, is_value, may_change, is_empty, may_store, stores_as, takes_well, take_well, after_operand, after_operands, after_store, acts_well, after_action, of_place}
-use Rattle.soundness_values.proofs.Standings.{alike_itself}
-use Rattle.soundness_values.proofs.Taking.{first, second, not_so, rel, MayLapse, never_fits, ValueOf, of_copied, of_moved, of_number, of_truth, of_unit, operand_follows}
-use Rattle.soundness_values.proofs.Storing.{put_follows}
+use Rattle.soundness_values.proofs.Known.{Target}
+use Rattle.soundness_values.proofs.Running.{Passed, Runs}
+use Rattle.soundness_values.proofs.Checks.{ty_of, is_of, form_of, takes_well, after_operand}
+use Rattle.soundness_values.proofs.Taking.{first, rel, ValueOf, of_copied, of_moved, of_number, of_truth, of_unit, operand_follows}
 
 -- what halts where something holds, after one outcome
 halting_after : {W : Type 0} (b : Bool) (halt : Halt) (o : Out W) (next : W → Out W) →
@@ -115,16 +108,7 @@ module _ (setting : Setting) (number : ℕ) (targets : List Target) (uniques : L
     where
       not_int : (kind : IntKind) → is_int kind (Some Ty.Bool) ≡ true → ⊥
       not_int kind h = false≢true h
-  int_is kind (Some Ty.Unit) h = absurd (false≢true h)
-  int_is kind (Some Ty.Never) h = absurd (false≢true h)
-  int_is kind (Some (Ty.Adt n)) h = absurd (false≢true h)
-  int_is kind (Some (Ty.Tuple ts)) h = absurd (false≢true h)
-  int_is kind (Some (Ty.Array t n)) h = absurd (false≢true h)
-  int_is kind (Some (Ty.Boxed t)) h = absurd (false≢true h)
-  int_is kind (Some (Ty.Dyn n)) h = absurd (false≢true h)
-  int_is kind (Some (Ty.Shared t)) h = absurd (false≢true h)
-  int_is kind (Some (Ty.Unique t)) h = absurd (false≢true h)
-  int_is kind (Some (Ty.Closure n)) h = absurd (false≢true h)
+  int_is kind (Some other) h = absurd (false≢true h)
 
   number_fits_in : (value : ℤ) (kind : IntKind) (id : TyId) → is_int kind (type_at items id) ≡ true →
       number_fits kind value ≡ true → Fits items (OfType id) is_present (Number value)
@@ -187,17 +171,7 @@ module _ (setting : Setting) (number : ℕ) (targets : List Target) (uniques : L
   pub bool_is : (o : Option Ty) → is_bool o ≡ true → o ≡ Some Ty.Bool
   bool_is None h = absurd (false≢true h)
   bool_is (Some Ty.Bool) h = refl
-  bool_is (Some (Ty.Int k)) h = absurd (false≢true h)
-  bool_is (Some Ty.Unit) h = absurd (false≢true h)
-  bool_is (Some Ty.Never) h = absurd (false≢true h)
-  bool_is (Some (Ty.Adt n)) h = absurd (false≢true h)
-  bool_is (Some (Ty.Tuple ts)) h = absurd (false≢true h)
-  bool_is (Some (Ty.Array t n)) h = absurd (false≢true h)
-  bool_is (Some (Ty.Boxed t)) h = absurd (false≢true h)
-  bool_is (Some (Ty.Dyn n)) h = absurd (false≢true h)
-  bool_is (Some (Ty.Shared t)) h = absurd (false≢true h)
-  bool_is (Some (Ty.Unique t)) h = absurd (false≢true h)
-  bool_is (Some (Ty.Closure n)) h = absurd (false≢true h)
+  bool_is (Some other) h = absurd (false≢true h)
 
   pub operand_truth : (operand : Operand) (d : Datum) → Value operand d →
       is_bool (form_of items local_ty is_target operand) ≡ true → (truth : Bool) × (d ≡ Truth truth)

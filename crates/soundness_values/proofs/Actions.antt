@@ -1,7 +1,7 @@
 -- The actions of a checked run one by one: what each stores is of the type of its place, and it follows that of a
 -- free run.
-use Rattle.std.proofs.Common.{◌≡◌, ℕ, suc, pos, ℤ, ◌<◌, ◌==◌, ◌&&◌, ◌||◌, not, Bool, true, false, List, [], ◌∷◌, ◌++◌, length, Option, Some, None, is_some, refl, ap, sym, ◌∙◌, subst}
-use Rattle.std.specs.Prelude.{slice_get, option_and_then, replicate, int_lt}
+use Rattle.std.proofs.Common.{◌≡◌, ℕ, ℤ, ◌&&◌, ◌||◌, not, Bool, true, false, List, [], Option, Some, None, refl, ap, sym, ◌∙◌, subst}
+use Rattle.std.specs.Prelude.{option_and_then}
 use Rattle.std.specs.Option.{option_map_or}
 use Rattle.std.proofs.lemmas.Bool.{false≢true}
 use Rattle.std.proofs.lemmas.Option.{none-some}
@@ -9,38 +9,37 @@ use Rattle.std.proofs.Math.Path.{fun_ext}
 use Rattle.mir_base.specs.declared.int_kind.IntKind.{IntKind}
 use Rattle.mir_base.specs.declared.operator.Cmp.{Cmp}
 use Rattle.mir_base.specs.declared.trace.Event.{Event}
-use Rattle.mir_base.specs.declared.trace.Why.{Why}
 use Rattle.mir_ty.specs.declared.ty.Ty.{Ty}
 use Rattle.mir_ty.specs.declared.ty.TyId.{TyId}
 use Rattle.mir_ty.specs.ItemTable.{ItemTable, type_at}
 use Rattle.store_model.proofs.Effects.Following.{Relation}
 use Rattle.store_model.specs.declared.address.Addr.{Addr}
 use Rattle.store_model.specs.declared.address.At.TheVariants.{Inside}
-use Rattle.store_model.specs.Values.Datum.{Datum, Gone, Number, Truth, UnitValue, Aggregate, Box, Address}
+use Rattle.store_model.specs.Values.Datum.{Datum, Gone, Number, Truth, Box}
 use Rattle.store_model.specs.Effects as effects
-use Rattle.store_model.specs.Effects.{EffectSite, Operand, Halt, Stuck, Unreachable, Out, Go, Unwind, Halts, on_go, halting_if}
+use Rattle.store_model.specs.Effects.{EffectSite, Operand, Out, Go, Unwind, Halts, on_go}
 use Rattle.store_model.specs.Abstract.Effects as free
-use Rattle.store_model.specs.Abstract.Effects.{AbstractState, presence}
+use Rattle.store_model.specs.Abstract.Effects.{AbstractState}
 use Rattle.store_model.specs.Abstract.Presence.{Presence, is_present}
 use Rattle.store_model.specs.Places.Place.{Place, place_ty}
-use Rattle.store_model.specs.Places.TypeForms.{is_never, is_bool, is_int, is_dyn, is_unit, int_kind, box_content, are_compared, same_int}
+use Rattle.store_model.specs.Places.TypeForms.{is_never, is_bool, is_int, is_dyn, box_content, are_compared, same_int}
 use Rattle.store_model.specs.Concrete.Effects as values
 use Rattle.store_model.specs.Concrete.Effects.{put, put_if, compared, act, tell_after}
-use Rattle.store_model.specs.Concrete.Location.{Setting, DynamicType, OfType, concrete_ty, type_of_part}
-use Rattle.store_model.specs.Concrete.State.{State, Activation, Bodies, with_event, numbered_next}
-use Rattle.soundness_values.proofs.Doing.{FollowsOut, goes_on, unwinds, lapsed, refused, out_after}
-use Rattle.soundness_values.specs.Typed.{number_fits, is_impl_for}
+use Rattle.store_model.specs.Concrete.Location.{Setting, OfType, type_of_part}
+use Rattle.store_model.specs.Concrete.State.{State, Bodies, with_event, numbered_next}
+use Rattle.soundness_values.proofs.Doing.{FollowsOut, goes_on, unwinds, lapsed, refused}
+use Rattle.soundness_values.specs.Typed.{is_impl_for}
 use Rattle.soundness_values.proofs.Fits.{Fits}
 use Rattle.soundness_values.proofs.Facts.{Facts, without}
 use Rattle.soundness_values.proofs.Dropped.{feeding}
 use Rattle.soundness_values.proofs.Known.{Target}
 use Rattle.soundness_values.proofs.Running.{sure_place, Passed, Runs}
 use Rattle.soundness_values.proofs.Changing.{runs_alike}
-use Rattle.soundness_values.proofs.Checks.{id_of, ty_of, is_of, form_of, is_value, may_change, is_empty, may_store, stores_as, takes_well, after_operand, acts_well, of_place}
+use Rattle.soundness_values.proofs.Checks.{id_of, ty_of, is_of, form_of, is_value, may_change, is_empty, may_store, stores_as, takes_well, after_operand, acts_well}
 use Rattle.soundness_values.proofs.Standings.{alike_itself}
 use Rattle.soundness_values.proofs.Taking.{first, second, not_so, rel, never_fits, ValueOf, using_follows, operand_follows}
 use Rattle.soundness_values.proofs.Storing.{put_follows}
-use Rattle.soundness_values.proofs.Acting.{some_same, bool_is, int_is, value_is, value_form, Formed, formed, a_number, a_truth, a_unit, number_value, operand_truth, operand_number, one_stores, two_stores}
+use Rattle.soundness_values.proofs.Acting.{bool_is, value_is, value_form, number_value, operand_truth, operand_number, one_stores, two_stores}
 
 -- a test that holds of what is there, if anything is
 pub some_id : {A : Type 0} (o : Option A) (test : A → Bool) → option_map_or test o false ≡ true →
@@ -224,17 +223,7 @@ module _ (setting : Setting) (number : ℕ) (targets : List Target) (uniques : L
             (truth : Bool) × (compared operator a b ≡ Some truth)
         of_int (Some (Ty.Int kind)) e k = numbers kind e k
         of_int None e k = absurd (false≢true k)
-        of_int (Some Ty.Bool) e k = absurd (false≢true k)
-        of_int (Some Ty.Unit) e k = absurd (false≢true k)
-        of_int (Some Ty.Never) e k = absurd (false≢true k)
-        of_int (Some (Ty.Adt n)) e k = absurd (false≢true k)
-        of_int (Some (Ty.Tuple ts)) e k = absurd (false≢true k)
-        of_int (Some (Ty.Array t n)) e k = absurd (false≢true k)
-        of_int (Some (Ty.Boxed t)) e k = absurd (false≢true k)
-        of_int (Some (Ty.Dyn n)) e k = absurd (false≢true k)
-        of_int (Some (Ty.Shared t)) e k = absurd (false≢true k)
-        of_int (Some (Ty.Unique t)) e k = absurd (false≢true k)
-        of_int (Some (Ty.Closure n)) e k = absurd (false≢true k)
+        of_int (Some other) e k = absurd (false≢true k)
 
         by : (o : Option Ty) → form_of items local_ty is_target left ≡ o → (c : Bool) →
             same_int (form_of items local_ty is_target left) (form_of items local_ty is_target right) ≡ c →
@@ -307,17 +296,7 @@ module _ (setting : Setting) (number : ℕ) (targets : List Target) (uniques : L
         boxed_is : (o : Option Ty) (id : TyId) → box_content o ≡ Some id → o ≡ Some (Ty.Boxed id)
         boxed_is (Some (Ty.Boxed x)) id e = let same : x ≡ id = cc in ap (λ y. Some (Ty.Boxed y)) same
         boxed_is None id e = absurd (none-some id e)
-        boxed_is (Some (Ty.Int k)) id e = absurd (none-some id e)
-        boxed_is (Some Ty.Bool) id e = absurd (none-some id e)
-        boxed_is (Some Ty.Unit) id e = absurd (none-some id e)
-        boxed_is (Some Ty.Never) id e = absurd (none-some id e)
-        boxed_is (Some (Ty.Adt n)) id e = absurd (none-some id e)
-        boxed_is (Some (Ty.Tuple ts)) id e = absurd (none-some id e)
-        boxed_is (Some (Ty.Array t n)) id e = absurd (none-some id e)
-        boxed_is (Some (Ty.Dyn n)) id e = absurd (none-some id e)
-        boxed_is (Some (Ty.Shared t)) id e = absurd (none-some id e)
-        boxed_is (Some (Ty.Unique t)) id e = absurd (none-some id e)
-        boxed_is (Some (Ty.Closure n)) id e = absurd (none-some id e)
+        boxed_is (Some other) id e = absurd (none-some id e)
 
         box_fits : (end id : TyId) → type_at items end ≡ Some (Ty.Boxed id) → is_dyn (type_at items id) ≡ false →
             (d : Datum) (serial : ℕ) → Fits items (OfType id) is_present d → Fits items (OfType end) is_present
@@ -330,17 +309,7 @@ module _ (setting : Setting) (number : ℕ) (targets : List Target) (uniques : L
             not_object : (o : Option Ty) → is_impl_for items o None ≡ true
             not_object None = refl
             not_object (Some (Ty.Dyn n)) = refl
-            not_object (Some (Ty.Int k)) = refl
-            not_object (Some Ty.Bool) = refl
-            not_object (Some Ty.Unit) = refl
-            not_object (Some Ty.Never) = refl
-            not_object (Some (Ty.Adt n)) = refl
-            not_object (Some (Ty.Tuple ts)) = refl
-            not_object (Some (Ty.Array t n)) = refl
-            not_object (Some (Ty.Boxed t)) = refl
-            not_object (Some (Ty.Shared t)) = refl
-            not_object (Some (Ty.Unique t)) = refl
-            not_object (Some (Ty.Closure n)) = refl
+            not_object (Some other) = refl
 
     -- ---- actions that store nothing
 

@@ -13,7 +13,7 @@ use Rattle.store_model.proofs.Values.OnePart.{part-with_part_other}
 use Rattle.store_model.specs.declared.address.Addr.{Addr}
 use Rattle.store_model.specs.declared.address.At.{At}
 use Rattle.store_model.specs.declared.address.At.TheVariants.{Part, Inside}
-use Rattle.store_model.specs.Values.Datum.{Datum, Gone, Number, Truth, UnitValue, Aggregate, Box, Address}
+use Rattle.store_model.specs.Values.Datum.{Datum, Gone}
 use Rattle.store_model.specs.Values.Access.{AreApart, part, with_part, replaced}
 use Rattle.store_model.specs.Concrete.Location.{Setting, DynamicType, OfType, type_of_part, Located, into, into_all, located_part, located_root, located_in, located_at, stored_at, root_of}
 use Rattle.store_model.specs.Concrete.State.{State, Activation, cell, with_cell, at_depth, with_cell_at}
@@ -24,33 +24,13 @@ use Rattle.soundness_values.proofs.Standings.{cell_changed, cell_other, changed_
 type_kept : (items : ItemTable) (step other : At) (new v : Datum) (dynamic : DynamicType) →
     type_of_part items step (with_part other new v) dynamic ≡ type_of_part items step v dynamic
 type_kept items (Part n) (Part m) new Gone dynamic = refl
-type_kept items (Part n) (Part m) new (Number number) dynamic = refl
-type_kept items (Part n) (Part m) new (Truth truth) dynamic = refl
-type_kept items (Part n) (Part m) new UnitValue dynamic = refl
-type_kept items (Part n) (Part m) new (Aggregate variant serial parts) dynamic = refl
-type_kept items (Part n) (Part m) new (Box serial impl_no inside) dynamic = refl
-type_kept items (Part n) (Part m) new (Address address) dynamic = refl
 type_kept items (Part n) Inside new Gone dynamic = refl
-type_kept items (Part n) Inside new (Number number) dynamic = refl
-type_kept items (Part n) Inside new (Truth truth) dynamic = refl
-type_kept items (Part n) Inside new UnitValue dynamic = refl
-type_kept items (Part n) Inside new (Aggregate variant serial parts) dynamic = refl
-type_kept items (Part n) Inside new (Box serial impl_no inside) dynamic = refl
-type_kept items (Part n) Inside new (Address address) dynamic = refl
 type_kept items Inside (Part m) new Gone dynamic = refl
-type_kept items Inside (Part m) new (Number number) dynamic = refl
-type_kept items Inside (Part m) new (Truth truth) dynamic = refl
-type_kept items Inside (Part m) new UnitValue dynamic = refl
-type_kept items Inside (Part m) new (Aggregate variant serial parts) dynamic = refl
-type_kept items Inside (Part m) new (Box serial impl_no inside) dynamic = refl
-type_kept items Inside (Part m) new (Address address) dynamic = refl
 type_kept items Inside Inside new Gone dynamic = refl
-type_kept items Inside Inside new (Number number) dynamic = refl
-type_kept items Inside Inside new (Truth truth) dynamic = refl
-type_kept items Inside Inside new UnitValue dynamic = refl
-type_kept items Inside Inside new (Aggregate variant serial parts) dynamic = refl
-type_kept items Inside Inside new (Box serial impl_no inside) dynamic = refl
-type_kept items Inside Inside new (Address address) dynamic = refl
+type_kept items (Part n) (Part m) new other dynamic = refl
+type_kept items (Part n) Inside new other dynamic = refl
+type_kept items Inside (Part m) new other dynamic = refl
+type_kept items Inside Inside new other dynamic = refl
 
 module _ (items : ItemTable) where
   -- at a fork

@@ -1,52 +1,36 @@
 -- All arguments of a call in a checked run, one after another: each is a whole value of the type of its parameter, or a
 -- reference to a place that is known.
-use Rattle.std.proofs.Common.{◌≡◌, ◌≢◌, ℕ, ◌==◌, ◌&&◌, ◌||◌, not, Bool, true, false, List, [], ◌∷◌, ◌++◌, length, Option, Some, None, is_some, if◌then◌else◌, refl, ap, sym, ◌∙◌, subst}
-use Rattle.std.specs.Prelude.{slice_get, option_and_then}
-use Rattle.std.specs.List.{list_any, list_all, find}
-use Rattle.std.specs.Option.{option_map_or}
+use Rattle.std.proofs.Common.{◌≡◌, ◌≢◌, ℕ, ◌&&◌, not, Bool, true, false, List, [], ◌∷◌, ◌++◌, length, Option, Some, None, is_some, refl, ap, sym, ◌∙◌, subst}
+use Rattle.std.specs.Prelude.{option_and_then}
 use Rattle.std.proofs.lemmas.Bool.{false≢true}
-use Rattle.std.proofs.lemmas.Bool.Decides.{Decides-eqb}
-use Rattle.std.proofs.lemmas.Option.{none-some}
 use Rattle.mir_ty.specs.declared.ty.Ty.{Ty}
 use Rattle.mir_ty.specs.declared.ty.TyId.{TyId}
 use Rattle.mir_ty.specs.ItemTable.{ItemTable, type_at}
 use Rattle.store_model.proofs.Effects.Following.{Relation}
 use Rattle.store_model.specs.declared.address.Addr.{Addr}
-use Rattle.store_model.specs.declared.address.At.{At}
-use Rattle.store_model.specs.declared.address.At.TheVariants.{Part, Inside}
-use Rattle.store_model.specs.Values.Datum.{Datum, Gone, Number, Truth, UnitValue, Address}
-use Rattle.store_model.specs.Values.Access.{replaced}
-use Rattle.store_model.specs.Values.Wholeness.{is_whole}
+use Rattle.store_model.specs.Values.Datum.{Datum, Number, Truth, UnitValue, Address}
 use Rattle.store_model.specs.Effects as effects
-use Rattle.store_model.specs.Effects.{EffectSite, Operand, BadUse, Out, Go, on_go}
-use Rattle.store_model.specs.Abstract.Effects as free
-use Rattle.store_model.specs.Abstract.Effects.{AbstractState, presence, with_presence, may_use, watched_at, acted, operand_used, operands_used, unless_never}
+use Rattle.store_model.specs.Effects.{Operand, Out, on_go}
+use Rattle.store_model.specs.Abstract.Effects.{AbstractState, operand_used, operands_used}
 use Rattle.store_model.specs.Abstract.Presence.{Presence, is_present}
-use Rattle.store_model.specs.Places.Place.{Step, ToPart, ToField, ToContent, ToElement, Place, place_ty, whole_local}
+use Rattle.store_model.specs.Places.Place.{Place, whole_local}
 use Rattle.store_model.specs.Concrete.Effects as values
-use Rattle.store_model.specs.Concrete.Effects.{or_stuck, whole_at, whole, evaluate_operand, evaluate_operands}
-use Rattle.store_model.specs.Concrete.Location.{Setting, OfType, Located, named_by, on_reached, reach, root_of, stored_at}
-use Rattle.store_model.specs.Concrete.State.{State, Activation, Cells, cell, with_cell, with_cell_at}
-use Rattle.soundness_values.proofs.Doing.{FollowsOut, goes_on, refused, out_after}
+use Rattle.store_model.specs.Concrete.Effects.{or_stuck, evaluate_operand, evaluate_operands}
+use Rattle.store_model.specs.Concrete.Location.{Setting, OfType, named_by}
+use Rattle.store_model.specs.Concrete.State.{State, Activation, Cells, cell}
+use Rattle.soundness_values.proofs.Doing.{FollowsOut}
 use Rattle.soundness_values.proofs.Fits.{Fits}
-use Rattle.soundness_values.proofs.Facts.{Naming, Facts, Each, takes_index, without}
-use Rattle.soundness_values.proofs.Frames.{at_head}
+use Rattle.soundness_values.proofs.Facts.{Naming, Facts, Each, takes_index}
 use Rattle.soundness_values.proofs.Known.{Target}
 use Rattle.soundness_values.proofs.Behind.{names_it}
 use Rattle.soundness_values.proofs.Dropped.{feeding}
-use Rattle.soundness_values.proofs.Along.{number_in, path_at}
-use Rattle.soundness_values.proofs.LocalPresence.{presence_other}
-use Rattle.soundness_values.proofs.Standings.{cell_other}
-use Rattle.soundness_values.proofs.Running.{sure_place, Passed, Runs, Lies, in_local, behind, NamingHolds, own_named, behind_named, own_place}
-use Rattle.soundness_values.proofs.Reaching.{stands, from_root, own_watched}
-use Rattle.soundness_values.proofs.Changing.{own_changed, known_held}
-use Rattle.soundness_values.proofs.Checks.{id_of, is_of, is_value, may_move, takes_well, after_operand, after_operands, no_steps, naming_of, names_well, names_well_if_any, passes_reference, passes_as, passes, listed, named_by_one, named_by_all, takes_from}
-use Rattle.soundness_values.proofs.Taking.{first, second, not_so, rel, as_its_type, ValueOf, of_copied, of_moved, of_number, of_truth, of_unit, using_follows, taken}
-use Rattle.soundness_values.proofs.Taking as taking
+use Rattle.soundness_values.proofs.Running.{sure_place, Passed, Runs, own_place}
+use Rattle.soundness_values.proofs.Changing.{known_held}
+use Rattle.soundness_values.proofs.Checks.{id_of, is_of, takes_well, after_operand, after_operands, no_steps, naming_of, names_well, names_well_if_any, passes_reference, passes_as, passes, listed, named_by_one, named_by_all}
+use Rattle.soundness_values.proofs.Taking.{first, second, not_so, rel}
 use Rattle.soundness_values.proofs.Acting.{value_is}
 use Rattle.soundness_values.proofs.Building.{one_then_all}
-use Rattle.soundness_values.proofs.Testing.{none_of, whole_place}
-use Rattle.soundness_values.proofs.Ways.{has_index}
+use Rattle.soundness_values.proofs.Testing.{whole_place}
 use Rattle.soundness_values.proofs.Passing.{moves_one, moves_any, path_unmoved, or_false, NamesAt, own_names, behind_names, Moves, stays_so, operand_moves, reference_moves}
 
 module _ (setting : Setting) (number : ℕ) (targets : List Target) (uniques : List Addr) (base : State)
@@ -240,16 +224,7 @@ module _ (setting : Setting) (number : ℕ) (targets : List Target) (uniques : L
         by (Some (Ty.Shared to)) e k = by_its_name operand false to e k u f
         by (Some (Ty.Unique to)) e k = by_its_name operand true to e k u f
         by None e k = by_its_value operand (ap named_by e) k f
-        by (Some (Ty.Int x)) e k = by_its_value operand (ap named_by e) k f
-        by (Some Ty.Bool) e k = by_its_value operand (ap named_by e) k f
-        by (Some Ty.Unit) e k = by_its_value operand (ap named_by e) k f
-        by (Some Ty.Never) e k = by_its_value operand (ap named_by e) k f
-        by (Some (Ty.Adt x)) e k = by_its_value operand (ap named_by e) k f
-        by (Some (Ty.Tuple x)) e k = by_its_value operand (ap named_by e) k f
-        by (Some (Ty.Array x y)) e k = by_its_value operand (ap named_by e) k f
-        by (Some (Ty.Boxed x)) e k = by_its_value operand (ap named_by e) k f
-        by (Some (Ty.Dyn x)) e k = by_its_value operand (ap named_by e) k f
-        by (Some (Ty.Closure x)) e k = by_its_value operand (ap named_by e) k f
+        by (Some other) e k = by_its_value operand (ap named_by e) k f
 
   -- the arguments follow those of a free run
   pub args_follow : (goal last : Facts) (start : List (ℕ × Presence)) (args : List Operand) (ids : List TyId)

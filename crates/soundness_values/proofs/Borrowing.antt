@@ -1,41 +1,38 @@
 -- A reference that is made names what stands at its place, and is known to do so.
-use Rattle.std.proofs.Common.{◌≡◌, ◌⊎◌, ℕ, ◌==◌, ◌&&◌, not, Bool, true, false, List, [], ◌∷◌, ◌++◌, length, Option, Some, None, refl, ap, sym, ◌∙◌, subst}
-use Rattle.std.specs.Prelude.{slice_get, option_and_then}
+use Rattle.std.proofs.Common.{◌≡◌, ℕ, ◌==◌, Bool, true, false, List, [], ◌∷◌, ◌++◌, length, Option, Some, None, refl, ap, sym, ◌∙◌, subst}
+use Rattle.std.specs.Prelude.{option_and_then}
 use Rattle.std.specs.Option.{option_map_or}
 use Rattle.std.proofs.lemmas.Bool.{false≢true}
-use Rattle.std.proofs.lemmas.Option.{none-some}
 use Rattle.std.proofs.Math.Path.{fun_ext}
 use Rattle.mir_ty.specs.declared.ty.Ty.{Ty}
 use Rattle.mir_ty.specs.declared.ty.TyId.{TyId}
 use Rattle.mir_ty.specs.ItemTable.{ItemTable, type_at}
 use Rattle.store_model.proofs.Effects.Following.{Relation}
 use Rattle.store_model.specs.declared.address.Addr.{Addr}
-use Rattle.store_model.specs.Values.Datum.{Datum, Address}
+use Rattle.store_model.specs.Values.Datum.{Address}
 use Rattle.store_model.specs.Effects as effects
 use Rattle.store_model.specs.Effects.{EffectSite, Stuck, Unreachable, Out, Go, Unwind, Halts, on_go, halting_if}
 use Rattle.store_model.specs.Abstract.Effects as free
-use Rattle.store_model.specs.Abstract.Effects.{AbstractState, with_presence, watched_at, acted}
+use Rattle.store_model.specs.Abstract.Effects.{AbstractState, with_presence}
 use Rattle.store_model.specs.Abstract.Presence.{Presence, known, none_named}
-use Rattle.store_model.specs.Places.Place.{Step, Place, place_ty, whole_local, is_reference}
+use Rattle.store_model.specs.Places.Place.{Step, whole_local, is_reference}
 use Rattle.store_model.specs.Places.TypeForms.{is_never, referent}
 use Rattle.store_model.specs.Concrete.Effects as values
 use Rattle.store_model.specs.Concrete.Effects.{put, act, whole_at}
-use Rattle.store_model.specs.Concrete.Location.{Setting, OfType, Located, stored_at, on_reached}
-use Rattle.store_model.specs.Concrete.State.{State, Bodies, cell, with_cell}
+use Rattle.store_model.specs.Concrete.Location.{Setting, Located, stored_at, on_reached}
+use Rattle.store_model.specs.Concrete.State.{State, Bodies, with_cell}
 use Rattle.soundness_values.proofs.Doing.{FollowsOut, goes_on, out_after}
-use Rattle.soundness_values.proofs.Fits.{Fits}
 use Rattle.soundness_values.proofs.Standings.{cell_changed, cell_other}
-use Rattle.soundness_values.proofs.Along.{path_at}
 use Rattle.soundness_values.proofs.Facts.{Naming, Facts, takes_index, without, path_kept}
 use Rattle.soundness_values.proofs.Dropped.{feeding}
-use Rattle.soundness_values.proofs.Known.{Target, Known}
+use Rattle.soundness_values.proofs.Known.{Target}
 use Rattle.soundness_values.proofs.Reached.{address_of}
 use Rattle.soundness_values.proofs.Running.{sure_place, Passed, Runs, Lies, in_local, behind, NamingHolds, own_named, behind_named}
-use Rattle.soundness_values.proofs.Reaching.{stands, from_root, Used}
-use Rattle.soundness_values.proofs.Changing.{own_changed, own_there, own_at, known_held}
-use Rattle.soundness_values.proofs.Checks.{id_of, ty_of, no_steps, with_naming, acts_well}
-use Rattle.soundness_values.proofs.Taking.{first, second, not_so, rel, using_follows}
-use Rattle.soundness_values.proofs.Acting.{same_ids, concrete_ty_is}
+use Rattle.soundness_values.proofs.Reaching.{stands, from_root}
+use Rattle.soundness_values.proofs.Changing.{own_changed, own_there, known_held}
+use Rattle.soundness_values.proofs.Checks.{no_steps, with_naming}
+use Rattle.soundness_values.proofs.Taking.{rel, using_follows}
+use Rattle.soundness_values.proofs.Acting.{concrete_ty_is}
 
 module _ (setting : Setting) (number : ℕ) (targets : List Target) (uniques : List Addr) (base : State)
     (is_target : ℕ → Bool) (passed : Passed setting number targets uniques base is_target) where
@@ -71,43 +68,15 @@ module _ (setting : Setting) (number : ℕ) (targets : List Target) (uniques : L
   reference_is true (Some (Ty.Unique t)) id h = refl
   reference_is false None id h = absurd (false≢true h)
   reference_is false (Some (Ty.Unique t)) id h = refl
-  reference_is false (Some (Ty.Int k)) id h = absurd (false≢true h)
-  reference_is false (Some Ty.Bool) id h = absurd (false≢true h)
-  reference_is false (Some Ty.Unit) id h = absurd (false≢true h)
-  reference_is false (Some Ty.Never) id h = absurd (false≢true h)
-  reference_is false (Some (Ty.Adt n)) id h = absurd (false≢true h)
-  reference_is false (Some (Ty.Tuple ts)) id h = absurd (false≢true h)
-  reference_is false (Some (Ty.Array t n)) id h = absurd (false≢true h)
-  reference_is false (Some (Ty.Boxed t)) id h = absurd (false≢true h)
-  reference_is false (Some (Ty.Dyn n)) id h = absurd (false≢true h)
-  reference_is false (Some (Ty.Closure n)) id h = absurd (false≢true h)
   reference_is true None id h = absurd (false≢true h)
   reference_is true (Some (Ty.Shared t)) id h = refl
-  reference_is true (Some (Ty.Int k)) id h = absurd (false≢true h)
-  reference_is true (Some Ty.Bool) id h = absurd (false≢true h)
-  reference_is true (Some Ty.Unit) id h = absurd (false≢true h)
-  reference_is true (Some Ty.Never) id h = absurd (false≢true h)
-  reference_is true (Some (Ty.Adt n)) id h = absurd (false≢true h)
-  reference_is true (Some (Ty.Tuple ts)) id h = absurd (false≢true h)
-  reference_is true (Some (Ty.Array t n)) id h = absurd (false≢true h)
-  reference_is true (Some (Ty.Boxed t)) id h = absurd (false≢true h)
-  reference_is true (Some (Ty.Dyn n)) id h = absurd (false≢true h)
-  reference_is true (Some (Ty.Closure n)) id h = absurd (false≢true h)
+  reference_is false (Some other) id h = absurd (false≢true h)
+  reference_is true (Some other) id h = absurd (false≢true h)
 
   not_never : (o : Option Ty) → is_reference o ≡ true → is_never o ≡ false
   not_never None h = refl
   not_never (Some Ty.Never) h = absurd (false≢true h)
-  not_never (Some (Ty.Int k)) h = refl
-  not_never (Some Ty.Bool) h = refl
-  not_never (Some Ty.Unit) h = refl
-  not_never (Some (Ty.Adt n)) h = refl
-  not_never (Some (Ty.Tuple ts)) h = refl
-  not_never (Some (Ty.Array t n)) h = refl
-  not_never (Some (Ty.Boxed t)) h = refl
-  not_never (Some (Ty.Dyn n)) h = refl
-  not_never (Some (Ty.Shared t)) h = refl
-  not_never (Some (Ty.Unique t)) h = refl
-  not_never (Some (Ty.Closure n)) h = refl
+  not_never (Some other) h = refl
 
   module _ (w : State) (cells : List (ℕ × Presence)) (facts : Facts) (runs : R w cells facts) (node local : ℕ)
       (own : is_target local ≡ false) (id : TyId) (typed : local_ty local ≡ Some id)

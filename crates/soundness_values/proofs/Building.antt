@@ -1,6 +1,6 @@
 -- Aggregates of a checked run: made of operands of the types of their parts, each fits the type of its place.
-use Rattle.std.proofs.Common.{◌≡◌, ℕ, zero, suc, ◌==◌, ◌&&◌, ◌||◌, Bool, true, false, List, [], ◌∷◌, Option, Some, None, is_some, refl, ap, sym, ◌∙◌, subst}
-use Rattle.std.specs.Prelude.{slice_get, option_and_then, nat_lt, length, replicate}
+use Rattle.std.proofs.Common.{◌≡◌, ℕ, suc, ◌==◌, ◌&&◌, ◌||◌, Bool, true, false, List, [], ◌∷◌, Option, Some, None, is_some, refl, ap, sym, ◌∙◌, subst}
+use Rattle.std.specs.Prelude.{slice_get, option_and_then, replicate}
 use Rattle.std.specs.Option.{option_map_or}
 use Rattle.std.proofs.lemmas.Bool.{false≢true}
 use Rattle.std.proofs.lemmas.Bool.Decides.{Decides-eqb}
@@ -12,21 +12,20 @@ use Rattle.mir_ty.specs.ItemTable.{ItemTable, type_at}
 use Rattle.mir_ty.specs.Parts.{parts_of, captures_of}
 use Rattle.store_model.proofs.Effects.Following.{Relation}
 use Rattle.store_model.specs.declared.address.Addr.{Addr}
-use Rattle.store_model.specs.declared.address.At.TheVariants.{Part}
-use Rattle.store_model.specs.Values.Datum.{Datum, Data, Aggregate, no_part, data_from}
+use Rattle.store_model.specs.Values.Datum.{Datum, Aggregate, data_from}
 use Rattle.store_model.specs.Effects as effects
-use Rattle.store_model.specs.Effects.{EffectSite, Operand, AggregateKind, OfTuple, OfArray, OfVariant, OfClosure, Stuck, Unreachable, Out, Go, halting_if}
+use Rattle.store_model.specs.Effects.{EffectSite, Operand, AggregateKind, OfTuple, OfArray, OfVariant, OfClosure, Stuck, Unreachable, Out, halting_if}
 use Rattle.store_model.specs.Abstract.Effects as free
 use Rattle.store_model.specs.Abstract.Effects.{AbstractState, operands_used}
 use Rattle.store_model.specs.Abstract.Presence.{Presence, is_present}
-use Rattle.store_model.specs.Places.Place.{Place, place_ty, is_enum}
+use Rattle.store_model.specs.Places.Place.{place_ty, is_enum}
 use Rattle.store_model.specs.Places.TypeForms.{is_never}
 use Rattle.store_model.specs.Concrete.Drops.{drop_impl}
 use Rattle.store_model.specs.Concrete.Effects as values
 use Rattle.store_model.specs.Concrete.Effects.{or_stuck, evaluate_operand, evaluate_operands, act}
 use Rattle.store_model.specs.Concrete.Location.{Setting, DynamicType, OfType, type_of_field}
 use Rattle.store_model.specs.Concrete.State.{State, Bodies, numbered_next}
-use Rattle.soundness_values.proofs.Doing.{FollowsOut, goes_on, unwinds, lapsed, refused, out_after}
+use Rattle.soundness_values.proofs.Doing.{FollowsOut, out_after}
 use Rattle.soundness_values.specs.Typed.{is_aggregate, has_variant}
 use Rattle.soundness_values.proofs.Fits.{variant_exists, Fits, PartsFit}
 use Rattle.soundness_values.proofs.Facts.{Facts, without}
@@ -38,7 +37,7 @@ use Rattle.soundness_values.proofs.Checks.{ty_of, tys_if, part_types, is_of, may
 use Rattle.soundness_values.proofs.Standings.{alike_itself}
 use Rattle.soundness_values.proofs.Taking.{first, second, rel, operand_follows}
 use Rattle.soundness_values.proofs.Acting.{concrete_ty_is, value_is}
-use Rattle.soundness_values.proofs.Actions.{some_id, Stores, stores_well, FormedAt, formed_at, puts, follows_told}
+use Rattle.soundness_values.proofs.Actions.{some_id, Stores, stores_well, formed_at, puts, follows_told}
 
 module _ (setting : Setting) (number : ℕ) (targets : List Target) (uniques : List Addr) (base : State)
     (is_target : ℕ → Bool) (passed : Passed setting number targets uniques base is_target) where
@@ -180,53 +179,13 @@ module _ (setting : Setting) (number : ℕ) (targets : List Target) (uniques : L
       let t = tys_are (closure == n) (captures_of (slice_get items.closures n)) tys e in
       (Ty.Closure n, (refl, as_closure n (ap OfClosure ((Decides-eqb closure n).0 t.0)) refl t.1))
   made_as OfTuple None tys e = absurd (none-some tys e)
-  made_as OfTuple (Some (Ty.Int k)) tys e = absurd (none-some tys e)
-  made_as OfTuple (Some Ty.Bool) tys e = absurd (none-some tys e)
-  made_as OfTuple (Some Ty.Unit) tys e = absurd (none-some tys e)
-  made_as OfTuple (Some Ty.Never) tys e = absurd (none-some tys e)
-  made_as OfTuple (Some (Ty.Adt n)) tys e = absurd (none-some tys e)
-  made_as OfTuple (Some (Ty.Array t n)) tys e = absurd (none-some tys e)
-  made_as OfTuple (Some (Ty.Boxed t)) tys e = absurd (none-some tys e)
-  made_as OfTuple (Some (Ty.Dyn n)) tys e = absurd (none-some tys e)
-  made_as OfTuple (Some (Ty.Shared t)) tys e = absurd (none-some tys e)
-  made_as OfTuple (Some (Ty.Unique t)) tys e = absurd (none-some tys e)
-  made_as OfTuple (Some (Ty.Closure n)) tys e = absurd (none-some tys e)
   made_as OfArray None tys e = absurd (none-some tys e)
-  made_as OfArray (Some (Ty.Int k)) tys e = absurd (none-some tys e)
-  made_as OfArray (Some Ty.Bool) tys e = absurd (none-some tys e)
-  made_as OfArray (Some Ty.Unit) tys e = absurd (none-some tys e)
-  made_as OfArray (Some Ty.Never) tys e = absurd (none-some tys e)
-  made_as OfArray (Some (Ty.Adt n)) tys e = absurd (none-some tys e)
-  made_as OfArray (Some (Ty.Tuple t)) tys e = absurd (none-some tys e)
-  made_as OfArray (Some (Ty.Boxed t)) tys e = absurd (none-some tys e)
-  made_as OfArray (Some (Ty.Dyn n)) tys e = absurd (none-some tys e)
-  made_as OfArray (Some (Ty.Shared t)) tys e = absurd (none-some tys e)
-  made_as OfArray (Some (Ty.Unique t)) tys e = absurd (none-some tys e)
-  made_as OfArray (Some (Ty.Closure n)) tys e = absurd (none-some tys e)
   made_as (OfVariant a v) None tys e = absurd (none-some tys e)
-  made_as (OfVariant a v) (Some (Ty.Int k)) tys e = absurd (none-some tys e)
-  made_as (OfVariant a v) (Some Ty.Bool) tys e = absurd (none-some tys e)
-  made_as (OfVariant a v) (Some Ty.Unit) tys e = absurd (none-some tys e)
-  made_as (OfVariant a v) (Some Ty.Never) tys e = absurd (none-some tys e)
-  made_as (OfVariant a v) (Some (Ty.Tuple t)) tys e = absurd (none-some tys e)
-  made_as (OfVariant a v) (Some (Ty.Array t n)) tys e = absurd (none-some tys e)
-  made_as (OfVariant a v) (Some (Ty.Boxed t)) tys e = absurd (none-some tys e)
-  made_as (OfVariant a v) (Some (Ty.Dyn n)) tys e = absurd (none-some tys e)
-  made_as (OfVariant a v) (Some (Ty.Shared t)) tys e = absurd (none-some tys e)
-  made_as (OfVariant a v) (Some (Ty.Unique t)) tys e = absurd (none-some tys e)
-  made_as (OfVariant a v) (Some (Ty.Closure n)) tys e = absurd (none-some tys e)
   made_as (OfClosure c) None tys e = absurd (none-some tys e)
-  made_as (OfClosure c) (Some (Ty.Int k)) tys e = absurd (none-some tys e)
-  made_as (OfClosure c) (Some Ty.Bool) tys e = absurd (none-some tys e)
-  made_as (OfClosure c) (Some Ty.Unit) tys e = absurd (none-some tys e)
-  made_as (OfClosure c) (Some Ty.Never) tys e = absurd (none-some tys e)
-  made_as (OfClosure c) (Some (Ty.Adt n)) tys e = absurd (none-some tys e)
-  made_as (OfClosure c) (Some (Ty.Tuple t)) tys e = absurd (none-some tys e)
-  made_as (OfClosure c) (Some (Ty.Array t n)) tys e = absurd (none-some tys e)
-  made_as (OfClosure c) (Some (Ty.Boxed t)) tys e = absurd (none-some tys e)
-  made_as (OfClosure c) (Some (Ty.Dyn n)) tys e = absurd (none-some tys e)
-  made_as (OfClosure c) (Some (Ty.Shared t)) tys e = absurd (none-some tys e)
-  made_as (OfClosure c) (Some (Ty.Unique t)) tys e = absurd (none-some tys e)
+  made_as OfTuple (Some other) tys e = absurd (none-some tys e)
+  made_as OfArray (Some other) tys e = absurd (none-some tys e)
+  made_as (OfVariant a v) (Some other) tys e = absurd (none-some tys e)
+  made_as (OfClosure c) (Some other) tys e = absurd (none-some tys e)
 
   module _ (run : Bodies) (w : State) (cells : List (ℕ × Presence)) (facts : Facts) (runs : R w cells facts)
       (to : EffectSite) (end : TyId) (is_at : place_ty items local_ty to.place ≡ Some end) where

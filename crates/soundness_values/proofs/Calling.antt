@@ -1,7 +1,7 @@
 -- A call of a checked run follows that of a free run, by the contract of calls: it takes the choice 0 where the body
 -- returns, and 1 where it panics.
-use Rattle.std.proofs.Common.{◌≡◌, ℕ, suc, ◌==◌, ◌&&◌, ◌||◌, not, Bool, true, false, List, [], ◌∷◌, ◌++◌, length, Option, Some, None, if◌then◌else◌, refl, ap, sym, ◌∙◌, subst}
-use Rattle.std.specs.Prelude.{slice_get, option_and_then}
+use Rattle.std.proofs.Common.{◌≡◌, ℕ, ◌==◌, ◌&&◌, ◌||◌, not, Bool, true, false, List, [], ◌∷◌, length, Option, Some, None, if◌then◌else◌, refl, ap, sym, ◌∙◌, subst}
+use Rattle.std.specs.Prelude.{option_and_then}
 use Rattle.std.specs.List.{list_any, list_all}
 use Rattle.std.specs.Option.{option_map_or}
 use Rattle.std.proofs.lemmas.Bool.{false≢true}
@@ -12,20 +12,19 @@ use Rattle.store_model.proofs.Effects.Following.{Relation}
 use Rattle.store_model.specs.declared.address.Addr.{Addr}
 use Rattle.store_model.specs.Values.Datum.{Datum}
 use Rattle.store_model.specs.Effects as effects
-use Rattle.store_model.specs.Effects.{EffectSite, Operand, Halt, Aborted, OutOfTicks, Stuck, StuckAt, BadUse, BadStore, NoChoice, Infeasible, Unreachable, Out, Go, Unwind, Halts, on_go, halting_if}
+use Rattle.store_model.specs.Effects.{EffectSite, Operand, Halt, Aborted, OutOfTicks, Stuck, Infeasible, Unreachable, Out, Go, Unwind, Halts, on_go, halting_if}
 use Rattle.store_model.specs.Abstract.Effects as free
 use Rattle.store_model.specs.Abstract.Effects.{AbstractState, presence, operand_used, operands_used, returns_by_choice}
-use Rattle.store_model.specs.Abstract.Presence.{Presence, is_present}
-use Rattle.store_model.specs.Places.Place.{Place, place_ty}
+use Rattle.store_model.specs.Abstract.Presence.{Presence}
+use Rattle.store_model.specs.Places.Place.{place_ty}
 use Rattle.store_model.specs.Places.TypeForms.{same_id, is_never}
 use Rattle.store_model.specs.Concrete.Effects as values
 use Rattle.store_model.specs.Concrete.Effects.{or_stuck, evaluate_operands, put, answered}
-use Rattle.store_model.specs.Concrete.Location.{Setting, OfType}
-use Rattle.store_model.specs.Concrete.State.{State, Bodies, cell, Answer, Returns, Unwinds, HaltsIn}
+use Rattle.store_model.specs.Concrete.Location.{Setting}
+use Rattle.store_model.specs.Concrete.State.{State, Bodies, Answer}
 use Rattle.soundness_values.proofs.Doing.{FollowsOut, unwinds, lapsed, out_after}
 use Rattle.soundness_values.specs.Frames.{Alike, written}
 use Rattle.soundness_values.proofs.Facts.{Naming, Facts, Each, takes_index, without}
-use Rattle.soundness_values.proofs.Fits.{Fits}
 use Rattle.soundness_values.proofs.Dropped.{feeding}
 use Rattle.soundness_values.proofs.Known.{Target, StandsFor}
 use Rattle.soundness_values.proofs.LadderEnds.{MayEnd}
@@ -38,8 +37,8 @@ use Rattle.soundness_values.proofs.Acting.{same_ids, concrete_ty_is}
 use Rattle.soundness_values.proofs.Actions.{Stores, stores_well, puts}
 use Rattle.soundness_values.proofs.Passing.{moves_one, moves_any, Moves}
 use Rattle.soundness_values.proofs.Arguments.{Untouched, Args, args_follow}
-use Rattle.soundness_values.proofs.Contracts.{targets_of, uniques_of, MayRun, Leaves, LeftSo, returned, unwound, halted, News, news_of}
-use Rattle.soundness_values.proofs.AfterCalls.{are_whole, all_stand, all_alone, After, after_args}
+use Rattle.soundness_values.proofs.Contracts.{targets_of, uniques_of, MayRun, Leaves, LeftSo, returned, unwound, halted, news_of}
+use Rattle.soundness_values.proofs.AfterCalls.{are_whole, all_stand, all_alone, after_args}
 
 halting_stuck_list : (b : Bool) (o : Option (List Datum × State)) (next : List Datum → State → Out State) (w0 : State) →
     halting_if b Stuck (or_stuck {A = List Datum × State} o (λ t. next t.0 t.1) w0)
@@ -283,13 +282,7 @@ module _ (setting : Setting) (number : ℕ) (targets : List Target) (uniques : L
             by : (halt : Halt) → MayEnd halt → FollowsOut (rels goal) tt (Halts halt y) g
             by Aborted h = lapsed tt Aborted y g tt
             by OutOfTicks h = lapsed tt OutOfTicks y g tt
-            by Stuck h = absurd h
-            by (StuckAt p c) h = absurd h
-            by (BadUse at) h = absurd h
-            by (BadStore at) h = absurd h
-            by NoChoice h = absurd h
-            by Infeasible h = absurd h
-            by Unreachable h = absurd h
+            by other h = absurd h
 
         answer_follows : (o : Answer) → LeftSo setting (targets_of items 1 params ds) result v o →
             FollowsOut (rels goal) tt (halting_if b Stuck (answered setting to o))

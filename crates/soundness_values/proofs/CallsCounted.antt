@@ -13,7 +13,7 @@ use Rattle.mir_ty.specs.ItemTable.{ItemTable}
 use Rattle.store_model.specs.declared.address.Addr.{Addr}
 use Rattle.store_model.specs.Values.Datum.{Datum}
 use Rattle.store_model.specs.Effects as effects
-use Rattle.store_model.specs.Effects.{EffectSite, Operand, Action, Halt, Stuck, BadUse, Unreachable, Out, Go, Unwind, Halts, halting_if}
+use Rattle.store_model.specs.Effects.{EffectSite, Operand, Action, Halt, Stuck, BadUse, Unreachable, Out, Go, Halts, halting_if}
 use Rattle.store_model.specs.Abstract.Effects as free
 use Rattle.store_model.specs.Abstract.Effects.{operands_used, returns_by_choice}
 use Rattle.store_model.specs.Abstract.Presence.{Presence}
@@ -311,20 +311,7 @@ module _ (p : ProgramTree) (protects : ℕ → ℕ → Bool) (typed : WellTyped 
     all_counted (effects.CallVirtual to trait_no method operands) v k s none r plain acts tested =
         counted_virtual to trait_no method operands v k s none r acts tested
     all_counted (effects.Free site) v k s none r plain acts tested = absurd (false≢true acts)
-    all_counted (effects.Put to from) v k s none r plain acts tested = absurd (false≢true (sym plain))
-    all_counted (effects.Compare to operator left right) v k s none r plain acts tested = absurd (false≢true (sym plain))
-    all_counted (effects.Not to operand) v k s none r plain acts tested = absurd (false≢true (sym plain))
-    all_counted (effects.Build to kind parts) v k s none r plain acts tested = absurd (false≢true (sym plain))
-    all_counted (effects.NewBox to content) v k s none r plain acts tested = absurd (false≢true (sym plain))
-    all_counted (effects.Unsize to trait_no operand) v k s none r plain acts tested = absurd (false≢true (sym plain))
-    all_counted (effects.Borrow to unique from) v k s none r plain acts tested = absurd (false≢true (sym plain))
-    all_counted (effects.Touch site) v k s none r plain acts tested = absurd (false≢true (sym plain))
-    all_counted (effects.Print operand) v k s none r plain acts tested = absurd (false≢true (sym plain))
-    all_counted (effects.Forget operand) v k s none r plain acts tested = absurd (false≢true (sym plain))
-    all_counted (effects.Compute to operator left right) v k s none r plain acts tested = absurd (false≢true (sym plain))
-    all_counted (effects.Negate to operand) v k s none r plain acts tested = absurd (false≢true (sym plain))
-    all_counted (effects.Bounds index count) v k s none r plain acts tested = absurd (false≢true (sym plain))
-    all_counted (effects.Ask to) v k s none r plain acts tested = absurd (false≢true (sym plain))
+    all_counted other v k s none r plain acts tested = absurd (false≢true (sym plain))
 
   -- what is asked of calls
   pub calls_counted : AllCallsCount p protects (protect_tests p.items protects) typed falls drop_protected

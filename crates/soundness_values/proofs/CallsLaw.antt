@@ -7,8 +7,8 @@ use Rattle.std.proofs.lemmas.Option.{none-some}
 use Rattle.mir_ty.specs.declared.ty.Ty.{Ty}
 use Rattle.mir_ty.specs.declared.ty.TyId.{TyId}
 use Rattle.mir_ty.specs.ItemTable.{ItemTable, type_at}
-use Rattle.store_model.specs.Values.Datum.{Datum, Gone, Number, Truth, UnitValue, Aggregate, Box, Address}
-use Rattle.store_model.specs.Effects.{Halt, Aborted, OutOfTicks, Stuck, StuckAt, BadUse, BadStore, NoChoice, Infeasible, Unreachable}
+use Rattle.store_model.specs.Values.Datum.{Datum, Address}
+use Rattle.store_model.specs.Effects.{Halt, Aborted, OutOfTicks}
 use Rattle.store_model.specs.Concrete.Location.{Setting, OfType}
 use Rattle.store_model.specs.Concrete.State.{State, Activation, Answer}
 use Rattle.soundness_values.specs.Frames.{Apart, Alike, written}
@@ -36,29 +36,10 @@ same_one : (o : Option Ty) (l : ℕ) (d : Datum) (refs : List Reference) (ts : L
     Same (and_those (reference o d) refs) (target_if o l d ++ ts)
 same_one (Some (Ty.Unique to)) l (Address a) refs ts h = one_same _ _ refs ts refl h
 same_one (Some (Ty.Shared to)) l (Address a) refs ts h = one_same _ _ refs ts refl h
-same_one (Some (Ty.Unique to)) l Gone refs ts h = h
-same_one (Some (Ty.Unique to)) l (Number n) refs ts h = h
-same_one (Some (Ty.Unique to)) l (Truth b) refs ts h = h
-same_one (Some (Ty.Unique to)) l UnitValue refs ts h = h
-same_one (Some (Ty.Unique to)) l (Aggregate v s p) refs ts h = h
-same_one (Some (Ty.Unique to)) l (Box s i x) refs ts h = h
-same_one (Some (Ty.Shared to)) l Gone refs ts h = h
-same_one (Some (Ty.Shared to)) l (Number n) refs ts h = h
-same_one (Some (Ty.Shared to)) l (Truth b) refs ts h = h
-same_one (Some (Ty.Shared to)) l UnitValue refs ts h = h
-same_one (Some (Ty.Shared to)) l (Aggregate v s p) refs ts h = h
-same_one (Some (Ty.Shared to)) l (Box s i x) refs ts h = h
 same_one None l d refs ts h = h
-same_one (Some (Ty.Int k)) l d refs ts h = h
-same_one (Some Ty.Bool) l d refs ts h = h
-same_one (Some Ty.Unit) l d refs ts h = h
-same_one (Some Ty.Never) l d refs ts h = h
-same_one (Some (Ty.Adt n)) l d refs ts h = h
-same_one (Some (Ty.Tuple x)) l d refs ts h = h
-same_one (Some (Ty.Array t n)) l d refs ts h = h
-same_one (Some (Ty.Boxed t)) l d refs ts h = h
-same_one (Some (Ty.Dyn n)) l d refs ts h = h
-same_one (Some (Ty.Closure n)) l d refs ts h = h
+same_one (Some (Ty.Unique to)) l other refs ts h = h
+same_one (Some (Ty.Shared to)) l other refs ts h = h
+same_one (Some other) l d refs ts h = h
 
 pub same_references : (items : ItemTable) (l : ℕ) (ids : List TyId) (ds : List Datum) →
     Same (references items ids ds) (targets_of items l ids ds)
@@ -199,10 +180,4 @@ module _ (setting : Setting) where
         by : (halt : Halt) → MayEnd halt → (halt ≡ Aborted) ⊎ (halt ≡ OutOfTicks)
         by Aborted h = inl refl
         by OutOfTicks h = inr refl
-        by Stuck h = absurd h
-        by (StuckAt b c) h = absurd h
-        by (BadUse site) h = absurd h
-        by (BadStore site) h = absurd h
-        by NoChoice h = absurd h
-        by Infeasible h = absurd h
-        by Unreachable h = absurd h
+        by other h = absurd h

@@ -1,13 +1,10 @@
 -- Conditions of a checked run follow those of a free run: they take the choice 1 where they hold. What tests and
 -- bounds tell is known then.
-use Rattle.std.proofs.Common.{◌≡◌, ◌⊎◌, inl, inr, ℕ, suc, pos, ℤ, ◌<◌, ◌==◌, ◌&&◌, not, Bool, true, false, List, [], ◌∷◌, ◌++◌, length, Option, Some, None, refl, ap, sym, ◌∙◌, subst}
-use Rattle.std.specs.Prelude.{slice_get, option_and_then, int_lt}
+use Rattle.std.proofs.Common.{◌≡◌, ◌⊎◌, inl, inr, ℕ, not, Bool, true, false, List, [], ◌∷◌, Option, Some, None, refl, ap, sym, ◌∙◌, subst}
+use Rattle.std.specs.Prelude.{option_and_then}
 use Rattle.std.specs.Option.{option_map_or}
-use Rattle.std.proofs.lemmas.Bool.{false≢true, ltb-true}
-use Rattle.std.proofs.lemmas.Bool.Decides.{Decides-eqb}
+use Rattle.std.proofs.lemmas.Bool.{false≢true}
 use Rattle.std.proofs.Math.Path.{fun_ext}
-use Rattle.mir_base.specs.declared.int_kind.IntKind.{IntKind}
-use Rattle.mir_base.specs.declared.trace.Why.{Why}
 use Rattle.mir_ty.specs.declared.ty.Ty.{Ty}
 use Rattle.mir_ty.specs.declared.ty.TyId.{TyId}
 use Rattle.mir_ty.specs.ItemTable.{ItemTable, type_at}
@@ -16,7 +13,7 @@ use Rattle.store_model.specs.declared.address.Addr.{Addr}
 use Rattle.store_model.specs.Values.Datum.{Datum, Data, Gone, Number, Truth, UnitValue, Aggregate, Box, Address}
 use Rattle.store_model.specs.Values.Access.{value_at}
 use Rattle.store_model.specs.Effects as effects
-use Rattle.store_model.specs.Effects.{EffectSite, Operand, Halt, Stuck, BadUse, Out, Go, Unwind, Halts, on_go, Choice, Yes, No, Neither}
+use Rattle.store_model.specs.Effects.{Operand, Halt, Stuck, BadUse, Out, Go, Unwind, Halts, on_go, Choice, Yes, No, Neither}
 use Rattle.store_model.specs.Abstract.Effects as free
 use Rattle.store_model.specs.Abstract.Effects.{AbstractState, presence, may_test, watched_at}
 use Rattle.store_model.specs.Abstract.Presence.{Presence, is_present, itself_gone, presence_along}
@@ -25,7 +22,7 @@ use Rattle.store_model.specs.Concrete.Effects as values
 use Rattle.store_model.specs.Concrete.Location.{Setting, DynamicType, concrete_ty, Located, Reaches, reach}
 use Rattle.store_model.specs.Concrete.State.{State, cell}
 use Rattle.soundness_values.proofs.Doing.{FollowsOut, goes_on, unwinds, refused, lapsed, FollowsChoice, takes, declines, lapsed_choice, refused_choice}
-use Rattle.soundness_values.proofs.Facts.{Facts, OfVariant}
+use Rattle.soundness_values.proofs.Facts.{Facts}
 use Rattle.soundness_values.proofs.Dropped.{feeding}
 use Rattle.soundness_values.proofs.Known.{Target}
 use Rattle.soundness_values.proofs.Running.{sure_place, Passed, Runs, BoundedHolds, VariantStands, own_variant, behind_variant, Lies, in_local, behind, lies}
@@ -185,17 +182,7 @@ module _ (setting : Setting) (number : ℕ) (targets : List Target) (uniques : L
     enum_ty : (o : Option Ty) → option_map_or (is_enum items) o false ≡ true → (n : ℕ) × (o ≡ Some (Ty.Adt n))
     enum_ty (Some (Ty.Adt n)) h = (n, refl)
     enum_ty None h = absurd (false≢true h)
-    enum_ty (Some (Ty.Int k)) h = absurd (false≢true h)
-    enum_ty (Some Ty.Bool) h = absurd (false≢true h)
-    enum_ty (Some Ty.Unit) h = absurd (false≢true h)
-    enum_ty (Some Ty.Never) h = absurd (false≢true h)
-    enum_ty (Some (Ty.Tuple ts)) h = absurd (false≢true h)
-    enum_ty (Some (Ty.Array t n)) h = absurd (false≢true h)
-    enum_ty (Some (Ty.Boxed t)) h = absurd (false≢true h)
-    enum_ty (Some (Ty.Dyn n)) h = absurd (false≢true h)
-    enum_ty (Some (Ty.Shared t)) h = absurd (false≢true h)
-    enum_ty (Some (Ty.Unique t)) h = absurd (false≢true h)
-    enum_ty (Some (Ty.Closure n)) h = absurd (false≢true h)
+    enum_ty (Some other) h = absurd (false≢true h)
 
     concrete_enum : (end : TyId) (f : DynamicType) (n : ℕ) → IsFound items end f →
         type_at items end ≡ Some (Ty.Adt n) → concrete_ty items f ≡ Some (Ty.Adt n)

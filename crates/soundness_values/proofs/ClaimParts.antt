@@ -83,17 +83,7 @@ module _ (items : ItemTable) where
       by : (o : Option Ty) → option_and_then adt_in o ≡ Some n → o ≡ Some (Ty.Adt n)
       by None k = absurd (none-some n k)
       by (Some (Ty.Adt m)) k = ap (λ x. Some (Ty.Adt x)) (some_is k)
-      by (Some (Ty.Int kind)) k = absurd (none-some n k)
-      by (Some Ty.Bool) k = absurd (none-some n k)
-      by (Some Ty.Unit) k = absurd (none-some n k)
-      by (Some Ty.Never) k = absurd (none-some n k)
-      by (Some (Ty.Tuple parts)) k = absurd (none-some n k)
-      by (Some (Ty.Array element count)) k = absurd (none-some n k)
-      by (Some (Ty.Boxed content)) k = absurd (none-some n k)
-      by (Some (Ty.Dyn m)) k = absurd (none-some n k)
-      by (Some (Ty.Shared to)) k = absurd (none-some n k)
-      by (Some (Ty.Unique to)) k = absurd (none-some n k)
-      by (Some (Ty.Closure m)) k = absurd (none-some n k)
+      by (Some other) k = absurd (none-some n k)
 
   pub dyn_is : (id : TyId) (n : ℕ) → trait_of items id ≡ Some n → type_at items id ≡ Some (Ty.Dyn n)
   dyn_is id n h = by (type_at items id) h
@@ -101,17 +91,7 @@ module _ (items : ItemTable) where
       by : (o : Option Ty) → option_and_then dyn_in o ≡ Some n → o ≡ Some (Ty.Dyn n)
       by None k = absurd (none-some n k)
       by (Some (Ty.Dyn m)) k = ap (λ x. Some (Ty.Dyn x)) (some_is k)
-      by (Some (Ty.Int kind)) k = absurd (none-some n k)
-      by (Some Ty.Bool) k = absurd (none-some n k)
-      by (Some Ty.Unit) k = absurd (none-some n k)
-      by (Some Ty.Never) k = absurd (none-some n k)
-      by (Some (Ty.Adt m)) k = absurd (none-some n k)
-      by (Some (Ty.Tuple parts)) k = absurd (none-some n k)
-      by (Some (Ty.Array element count)) k = absurd (none-some n k)
-      by (Some (Ty.Boxed content)) k = absurd (none-some n k)
-      by (Some (Ty.Shared to)) k = absurd (none-some n k)
-      by (Some (Ty.Unique to)) k = absurd (none-some n k)
-      by (Some (Ty.Closure m)) k = absurd (none-some n k)
+      by (Some other) k = absurd (none-some n k)
 
   -- a reference to a type of which a number says what it is
   abbrev pub is_numbered : (TyId → Option ℕ) → ℕ → Bool × TyId → Bool
@@ -138,16 +118,7 @@ module _ (items : ItemTable) where
           record { unique = false; to = to; is_reference = e; is_number = numbered (number to) k }
       by (Some (Ty.Unique to)) e k =
           record { unique = true; to = to; is_reference = e; is_number = numbered (number to) k }
-      by (Some (Ty.Int kind)) e k = absurd (false≢true k)
-      by (Some Ty.Bool) e k = absurd (false≢true k)
-      by (Some Ty.Unit) e k = absurd (false≢true k)
-      by (Some Ty.Never) e k = absurd (false≢true k)
-      by (Some (Ty.Adt m)) e k = absurd (false≢true k)
-      by (Some (Ty.Tuple parts)) e k = absurd (false≢true k)
-      by (Some (Ty.Array element count)) e k = absurd (false≢true k)
-      by (Some (Ty.Boxed content)) e k = absurd (false≢true k)
-      by (Some (Ty.Dyn m)) e k = absurd (false≢true k)
-      by (Some (Ty.Closure m)) e k = absurd (false≢true k)
+      by (Some other) e k = absurd (false≢true k)
 
   -- whether a reference is `&mut`, as the rules ask
   pub unique_so : (unique : Bool) (to id : TyId) → type_at items id ≡ Some (names_it unique to) →

@@ -1,7 +1,7 @@
 -- The coercion of a box to a box of a trait object, in a checked run: the impl of the trait for the type in the box is
 -- found, and the box goes by it then.
-use Rattle.std.proofs.Common.{◌≡◌, ℕ, ◌<◌, ◌==◌, ◌&&◌, Bool, true, false, List, [], ◌∷◌, Option, Some, None, is_some, refl, ap, sym, ◌∙◌, subst}
-use Rattle.std.specs.Prelude.{slice_get, option_and_then, position, length, get_or}
+use Rattle.std.proofs.Common.{◌≡◌, ℕ, ◌==◌, ◌&&◌, Bool, true, false, List, [], ◌∷◌, Option, Some, None, is_some, refl, ap, sym, ◌∙◌, subst}
+use Rattle.std.specs.Prelude.{slice_get, option_and_then, position, get_or}
 use Rattle.std.specs.Option.{option_map_or}
 use Rattle.std.proofs.lemmas.Bool.{false≢true}
 use Rattle.std.proofs.lemmas.Bool.Decides.{Decides-eqb}
@@ -14,78 +14,47 @@ use Rattle.mir_ty.specs.ItemTable.{ItemTable, type_at}
 use Rattle.store_model.proofs.Effects.Following.{Relation}
 use Rattle.store_model.specs.declared.address.Addr.{Addr}
 use Rattle.store_model.specs.declared.address.At.TheVariants.{Inside}
-use Rattle.store_model.specs.Values.Datum.{Datum, Gone, Number, Truth, UnitValue, Box}
+use Rattle.store_model.specs.Values.Datum.{Datum, Gone, Box}
 use Rattle.store_model.specs.Effects as effects
 use Rattle.store_model.specs.Effects.{EffectSite, Operand}
 use Rattle.store_model.specs.Abstract.Effects as free
 use Rattle.store_model.specs.Abstract.Effects.{AbstractState}
 use Rattle.store_model.specs.Abstract.Presence.{Presence, is_present}
-use Rattle.store_model.specs.Places.Place.{Place, place_ty}
 use Rattle.store_model.specs.Places.TypeForms.{is_never, is_dyn, is_dyn_of, adt_of, box_content}
 use Rattle.store_model.specs.Concrete.Effects as values
-use Rattle.store_model.specs.Concrete.Effects.{act, impl_of, with_impl, put}
+use Rattle.store_model.specs.Concrete.Effects.{act, impl_of}
 use Rattle.store_model.specs.Concrete.Location.{Setting, DynamicType, OfType, OfObject, adt_ty, concrete_ty, content_type, type_of_part}
 use Rattle.store_model.specs.Concrete.State.{State, Bodies}
 use Rattle.soundness_values.proofs.Doing.{FollowsOut}
 use Rattle.soundness_values.specs.Typed.{is_impl_for}
 use Rattle.soundness_values.proofs.Fits.{Fits}
-use Rattle.soundness_values.proofs.Forms.{IsBox, box_of}
+use Rattle.soundness_values.proofs.Forms.{box_of}
 use Rattle.soundness_values.proofs.FoundAlike.{fits_alike}
 use Rattle.soundness_values.proofs.Facts.{Facts, without}
 use Rattle.soundness_values.proofs.Dropped.{feeding}
 use Rattle.soundness_values.proofs.Known.{Target}
 use Rattle.soundness_values.proofs.Running.{Passed, Runs}
-use Rattle.soundness_values.proofs.Checks.{id_of, ty_of, form_of, may_store, takes_well, after_operand, acts_well}
-use Rattle.soundness_values.proofs.Taking.{first, second, rel, ValueOf}
+use Rattle.soundness_values.proofs.Checks.{ty_of, form_of, may_store, takes_well, after_operand, acts_well}
+use Rattle.soundness_values.proofs.Taking.{first, second, rel}
 use Rattle.soundness_values.proofs.Acting.{value_form, Formed, formed, a_number, a_truth, a_unit, one_stores}
-use Rattle.soundness_values.proofs.Actions.{Stores, stores_well, FormedAt, formed_at, puts}
+use Rattle.soundness_values.proofs.Actions.{stores_well, formed_at, puts}
 use Rattle.soundness_values.proofs.Numbers.{operand_ty_is}
 
 -- the forms that tests tell of
 adt_is : (o : Option Ty) (n : ℕ) → adt_of o ≡ Some n → o ≡ Some (Ty.Adt n)
 adt_is None n e = absurd (none-some n e)
 adt_is (Some (Ty.Adt m)) n e = let same : m ≡ n = cc in ap (λ x. Some (Ty.Adt x)) same
-adt_is (Some (Ty.Int k)) n e = absurd (none-some n e)
-adt_is (Some Ty.Bool) n e = absurd (none-some n e)
-adt_is (Some Ty.Unit) n e = absurd (none-some n e)
-adt_is (Some Ty.Never) n e = absurd (none-some n e)
-adt_is (Some (Ty.Tuple ts)) n e = absurd (none-some n e)
-adt_is (Some (Ty.Array t c)) n e = absurd (none-some n e)
-adt_is (Some (Ty.Boxed t)) n e = absurd (none-some n e)
-adt_is (Some (Ty.Dyn m)) n e = absurd (none-some n e)
-adt_is (Some (Ty.Shared t)) n e = absurd (none-some n e)
-adt_is (Some (Ty.Unique t)) n e = absurd (none-some n e)
-adt_is (Some (Ty.Closure m)) n e = absurd (none-some n e)
+adt_is (Some other) n e = absurd (none-some n e)
 
 boxed_is : (o : Option Ty) (id : TyId) → box_content o ≡ Some id → o ≡ Some (Ty.Boxed id)
 boxed_is (Some (Ty.Boxed x)) id e = let same : x ≡ id = cc in ap (λ y. Some (Ty.Boxed y)) same
 boxed_is None id e = absurd (none-some id e)
-boxed_is (Some (Ty.Int k)) id e = absurd (none-some id e)
-boxed_is (Some Ty.Bool) id e = absurd (none-some id e)
-boxed_is (Some Ty.Unit) id e = absurd (none-some id e)
-boxed_is (Some Ty.Never) id e = absurd (none-some id e)
-boxed_is (Some (Ty.Adt n)) id e = absurd (none-some id e)
-boxed_is (Some (Ty.Tuple ts)) id e = absurd (none-some id e)
-boxed_is (Some (Ty.Array t n)) id e = absurd (none-some id e)
-boxed_is (Some (Ty.Dyn n)) id e = absurd (none-some id e)
-boxed_is (Some (Ty.Shared t)) id e = absurd (none-some id e)
-boxed_is (Some (Ty.Unique t)) id e = absurd (none-some id e)
-boxed_is (Some (Ty.Closure n)) id e = absurd (none-some id e)
+boxed_is (Some other) id e = absurd (none-some id e)
 
 dyn_is : (n : ℕ) (o : Option Ty) → is_dyn_of n o ≡ true → o ≡ Some (Ty.Dyn n)
 dyn_is n None h = absurd (false≢true h)
 dyn_is n (Some (Ty.Dyn m)) h = ap (λ x. Some (Ty.Dyn x)) (sym ((Decides-eqb n m).0 h))
-dyn_is n (Some (Ty.Int k)) h = absurd (false≢true h)
-dyn_is n (Some Ty.Bool) h = absurd (false≢true h)
-dyn_is n (Some Ty.Unit) h = absurd (false≢true h)
-dyn_is n (Some Ty.Never) h = absurd (false≢true h)
-dyn_is n (Some (Ty.Adt m)) h = absurd (false≢true h)
-dyn_is n (Some (Ty.Tuple ts)) h = absurd (false≢true h)
-dyn_is n (Some (Ty.Array t c)) h = absurd (false≢true h)
-dyn_is n (Some (Ty.Boxed t)) h = absurd (false≢true h)
-dyn_is n (Some (Ty.Shared t)) h = absurd (false≢true h)
-dyn_is n (Some (Ty.Unique t)) h = absurd (false≢true h)
-dyn_is n (Some (Ty.Closure m)) h = absurd (false≢true h)
+dyn_is n (Some other) h = absurd (false≢true h)
 
 -- the impl that is found is one of the trait for the type
 pub record ImplFound (items : ItemTable) (trait_no adt n : ℕ) : Type 0 where

@@ -43,16 +43,7 @@ pub no_target : (o : Option Ty) (local : ℕ) (d : Datum) → named_by o ≡ Non
 no_target (Some (Ty.Unique to)) local d e = absurd (let never : ⊥ = cc in never)
 no_target (Some (Ty.Shared to)) local d e = absurd (let never : ⊥ = cc in never)
 no_target None local d e = refl
-no_target (Some (Ty.Int k)) local d e = refl
-no_target (Some Ty.Bool) local d e = refl
-no_target (Some Ty.Unit) local d e = refl
-no_target (Some Ty.Never) local d e = refl
-no_target (Some (Ty.Adt n)) local d e = refl
-no_target (Some (Ty.Tuple ts)) local d e = refl
-no_target (Some (Ty.Array t n)) local d e = refl
-no_target (Some (Ty.Boxed t)) local d e = refl
-no_target (Some (Ty.Dyn n)) local d e = refl
-no_target (Some (Ty.Closure n)) local d e = refl
+no_target (Some other) local d e = refl
 
 pub one_target : (unique : Bool) (to : TyId) (local : ℕ) (a : Addr) →
     target_if (Some (names_it unique to)) local (Address a)

@@ -12,7 +12,7 @@ use Rattle.store_model.specs.declared.address.Addr.{Addr}
 use Rattle.store_model.specs.Values.Datum.{Datum}
 use Rattle.store_model.specs.Values.Wholeness.{serials}
 use Rattle.store_model.specs.Effects as effects
-use Rattle.store_model.specs.Effects.{EffectSite, Operand, BadUse, Out, Go, Halts, on_go}
+use Rattle.store_model.specs.Effects.{EffectSite, Operand, BadUse, Out, Halts, on_go}
 use Rattle.store_model.specs.Abstract.Effects.{AbstractState, presence, operands_used}
 use Rattle.store_model.specs.Abstract.Presence.{Presence, itself_gone, presence_along}
 use Rattle.store_model.specs.Places.Place.{Step, Place, whole_local}
@@ -206,16 +206,7 @@ module _ (setting : Setting) (number : ℕ) (targets : List Target) (uniques : L
           by (Some (Ty.Shared to)) e k = out_by_name operand false to e k u m
           by (Some (Ty.Unique to)) e k = out_by_name operand true to e k u m
           by None e k = out_by_value operand (ap named_by e) k
-          by (Some (Ty.Int x)) e k = out_by_value operand (ap named_by e) k
-          by (Some Ty.Bool) e k = out_by_value operand (ap named_by e) k
-          by (Some Ty.Unit) e k = out_by_value operand (ap named_by e) k
-          by (Some Ty.Never) e k = out_by_value operand (ap named_by e) k
-          by (Some (Ty.Adt x)) e k = out_by_value operand (ap named_by e) k
-          by (Some (Ty.Tuple x)) e k = out_by_value operand (ap named_by e) k
-          by (Some (Ty.Array x y)) e k = out_by_value operand (ap named_by e) k
-          by (Some (Ty.Boxed x)) e k = out_by_value operand (ap named_by e) k
-          by (Some (Ty.Dyn x)) e k = out_by_value operand (ap named_by e) k
-          by (Some (Ty.Closure x)) e k = out_by_value operand (ap named_by e) k
+          by (Some other) e k = out_by_value operand (ap named_by e) k
 
     -- ---- all of them
 

@@ -12,7 +12,7 @@ use Rattle.store_model.proofs.Effects.Following.{FollowsEffects}
 use Rattle.store_model.specs.declared.address.Addr.{Addr}
 use Rattle.store_model.specs.Values.Datum.{Datum}
 use Rattle.store_model.specs.Effects as effects
-use Rattle.store_model.specs.Effects.{EffectSite, Operand, Action, Test, Mode, Halt, OutOfTicks, BadStore, Out, Go, Unwind, Halts, Choice, Yes, No, Neither}
+use Rattle.store_model.specs.Effects.{EffectSite, Action, Test, Mode, OutOfTicks, BadStore, Out, Go, Unwind, Halts, Yes, No}
 use Rattle.store_model.specs.Abstract.Effects as free
 use Rattle.store_model.specs.Abstract.Effects.{AbstractState, presence, may_store, watched_at, choice_after, when, dropped}
 use Rattle.store_model.specs.Abstract.Presence.{Presence}
@@ -204,26 +204,7 @@ module _ (p : ProgramTree) (protects : ℕ → ℕ → Bool) (also : ℕ → Als
   refills_so : (action : Action) (facts : Facts) (hole : Place) → refills items local_ty is_target facts hole action ≡ true
       → Refills action
   refills_so (effects.Put to (effects.Moved site)) facts hole h = by_move to site refl
-  refills_so (effects.Put to (effects.Copied site)) facts hole h = absurd (false≢true h)
-  refills_so (effects.Put to (effects.Number value kind)) facts hole h = absurd (false≢true h)
-  refills_so (effects.Put to (effects.Truth value)) facts hole h = absurd (false≢true h)
-  refills_so (effects.Put to effects.UnitValue) facts hole h = absurd (false≢true h)
-  refills_so (effects.Compare to operator left right) facts hole h = absurd (false≢true h)
-  refills_so (effects.Not to operand) facts hole h = absurd (false≢true h)
-  refills_so (effects.Build to kind parts) facts hole h = absurd (false≢true h)
-  refills_so (effects.NewBox to content) facts hole h = absurd (false≢true h)
-  refills_so (effects.Unsize to trait_no operand) facts hole h = absurd (false≢true h)
-  refills_so (effects.Borrow to unique from) facts hole h = absurd (false≢true h)
-  refills_so (effects.Touch site) facts hole h = absurd (false≢true h)
-  refills_so (effects.Print operand) facts hole h = absurd (false≢true h)
-  refills_so (effects.Forget operand) facts hole h = absurd (false≢true h)
-  refills_so (effects.Free site) facts hole h = absurd (false≢true h)
-  refills_so (effects.Compute to operator left right) facts hole h = absurd (false≢true h)
-  refills_so (effects.Negate to operand) facts hole h = absurd (false≢true h)
-  refills_so (effects.Bounds index count) facts hole h = absurd (false≢true h)
-  refills_so (effects.Call to body args) facts hole h = absurd (false≢true h)
-  refills_so (effects.CallVirtual to trait_no method args) facts hole h = absurd (false≢true h)
-  refills_so (effects.Ask to) facts hole h = absurd (false≢true h)
+  refills_so other facts hole h = absurd (false≢true h)
 
   module _ (action : Action) (v : State) (k : Kept) (s : said v k)
       (h : may_act items local_ty is_target k.1 k.0 action ≡ true) where

@@ -14,7 +14,7 @@ use Rattle.store_model.specs.declared.address.Addr.{Addr}
 use Rattle.store_model.specs.Values.Datum.{Datum, Gone, Number, Truth, UnitValue, Aggregate, Box, Address, data_from}
 use Rattle.store_model.specs.Values.Wholeness.{serials, serials_of_all}
 use Rattle.store_model.specs.Effects as effects
-use Rattle.store_model.specs.Effects.{EffectSite, Operand, AggregateKind, OfTuple, OfArray, OfVariant, OfClosure, Action, Stuck, Unreachable, Out, Go, Unwind, Halts, on_go, halting_if}
+use Rattle.store_model.specs.Effects.{EffectSite, Operand, AggregateKind, OfTuple, OfArray, OfVariant, OfClosure, Action, Out, Go, on_go}
 use Rattle.store_model.specs.Abstract.Effects as free
 use Rattle.store_model.specs.Abstract.Effects.{AbstractState, presence, operand_used, operands_used, panics_by_choice}
 use Rattle.store_model.specs.Abstract.Presence.{Presence, itself_gone, presence_along}
@@ -22,7 +22,7 @@ use Rattle.store_model.specs.Places.Place.{Step}
 use Rattle.store_model.specs.Places.TypeForms.{is_bool}
 use Rattle.store_model.specs.Concrete.Drops.{drop_impl}
 use Rattle.store_model.specs.Concrete.Effects as values
-use Rattle.store_model.specs.Concrete.Effects.{act, or_stuck, evaluate_operand, evaluate_operands, with_operand, with_two_operands, with_operands, put, put_if, tell_after, compared, made, with_impl, whole_at, forgotten, forgotten_parts, made_forgotten, if_typed}
+use Rattle.store_model.specs.Concrete.Effects.{act, or_stuck, evaluate_operands, with_operand, put, put_if, compared, made, with_impl, whole_at}
 use Rattle.store_model.specs.Concrete.Location.{Setting, Located}
 use Rattle.store_model.specs.Concrete.State.{State, Bodies, with_event, numbered_next}
 use Rattle.soundness_values.proofs.Changing.{runs_alike}
@@ -48,23 +48,13 @@ pub compared_numbers : (operator : Cmp) (a b : Datum) (truth : Bool) → compare
     (serials a ≡ []) × (serials b ≡ [])
 compared_numbers operator (Number x) (Number y) truth e = (refl, refl)
 compared_numbers operator (Truth x) (Truth y) truth e = (refl, refl)
-compared_numbers operator (Number x) Gone truth e = absurd (none-some truth e)
-compared_numbers operator (Number x) (Truth y) truth e = absurd (none-some truth e)
-compared_numbers operator (Number x) UnitValue truth e = absurd (none-some truth e)
-compared_numbers operator (Number x) (Aggregate v s p) truth e = absurd (none-some truth e)
-compared_numbers operator (Number x) (Box s i d) truth e = absurd (none-some truth e)
-compared_numbers operator (Number x) (Address y) truth e = absurd (none-some truth e)
-compared_numbers operator (Truth x) Gone truth e = absurd (none-some truth e)
-compared_numbers operator (Truth x) (Number y) truth e = absurd (none-some truth e)
-compared_numbers operator (Truth x) UnitValue truth e = absurd (none-some truth e)
-compared_numbers operator (Truth x) (Aggregate v s p) truth e = absurd (none-some truth e)
-compared_numbers operator (Truth x) (Box s i d) truth e = absurd (none-some truth e)
-compared_numbers operator (Truth x) (Address y) truth e = absurd (none-some truth e)
 compared_numbers operator Gone b truth e = absurd (none-some truth e)
 compared_numbers operator UnitValue b truth e = absurd (none-some truth e)
 compared_numbers operator (Aggregate v s p) b truth e = absurd (none-some truth e)
 compared_numbers operator (Box s i d) b truth e = absurd (none-some truth e)
 compared_numbers operator (Address x) b truth e = absurd (none-some truth e)
+compared_numbers operator (Number x) other truth e = absurd (none-some truth e)
+compared_numbers operator (Truth x) other truth e = absurd (none-some truth e)
 
 -- what goes on where a panic is a choice has not panicked
 pub chosen_go : (t : List Bool) (cells : List (ℕ × Presence)) (next : AbstractState → Out AbstractState) →
@@ -160,12 +150,7 @@ module _ (setting : Setting) (number : ℕ) (targets : List Target) (uniques : L
             (b : Bool) × ((d ≡ Truth (not b)) × (put setting to (Truth b) v ≡ Go u))
         negated_of (Truth true) v x = (false, (refl, x))
         negated_of (Truth false) v x = (true, (refl, x))
-        negated_of Gone v x = absurd (let never : ⊥ = cc in never)
-        negated_of (Number n) v x = absurd (let never : ⊥ = cc in never)
-        negated_of UnitValue v x = absurd (let never : ⊥ = cc in never)
-        negated_of (Aggregate n s p) v x = absurd (let never : ⊥ = cc in never)
-        negated_of (Box s i inside) v x = absurd (let never : ⊥ = cc in never)
-        negated_of (Address a) v x = absurd (let never : ⊥ = cc in never)
+        negated_of other v x = absurd (let never : ⊥ = cc in never)
 
     -- a box gets the next number
     boxed_flow : (n serial : ℕ) (l : List ℕ) → times n (serial ∷ (l ++ [])) ≡ times n ((l ++ serial ∷ []) ++ [])
@@ -208,12 +193,7 @@ module _ (setting : Setting) (number : ℕ) (targets : List Target) (uniques : L
         with_impl_of : (n : ℕ) (d : Datum) (v : State) → put_if setting to (with_impl n d) v ≡ Go u →
             (x : Datum) × ((serials d ≡ serials x) × (put setting to x v ≡ Go u))
         with_impl_of n (Box s i inside) v x = (Box s (Some n) inside, (refl, x))
-        with_impl_of n Gone v x = absurd (let never : ⊥ = cc in never)
-        with_impl_of n (Number y) v x = absurd (let never : ⊥ = cc in never)
-        with_impl_of n (Truth y) v x = absurd (let never : ⊥ = cc in never)
-        with_impl_of n UnitValue v x = absurd (let never : ⊥ = cc in never)
-        with_impl_of n (Aggregate y s p) v x = absurd (let never : ⊥ = cc in never)
-        with_impl_of n (Address a) v x = absurd (let never : ⊥ = cc in never)
+        with_impl_of n other v x = absurd (let never : ⊥ = cc in never)
 
         boxed_of : (o : Option ℕ) (d : Datum) (v : State) → values.impl_put setting to o d v ≡ Go u →
             (x : Datum) × ((serials d ≡ serials x) × (put setting to x v ≡ Go u))
@@ -314,12 +294,7 @@ module _ (setting : Setting) (number : ℕ) (targets : List Target) (uniques : L
         by (Number n) v k x = subst (C []) (go_same x)
             (told setting number targets uniques base is_target passed size sized loose dropping guards deep spaced []
             (Event.Printed n) v refl refl k)
-        by Gone v k x = absurd (let never : ⊥ = cc in never)
-        by (Truth y) v k x = absurd (let never : ⊥ = cc in never)
-        by UnitValue v k x = absurd (let never : ⊥ = cc in never)
-        by (Aggregate y s p) v k x = absurd (let never : ⊥ = cc in never)
-        by (Box s i inside) v k x = absurd (let never : ⊥ = cc in never)
-        by (Address a) v k x = absurd (let never : ⊥ = cc in never)
+        by other v k x = absurd (let never : ⊥ = cc in never)
 
     pub bounds_counted : (index : Operand) (count : ℕ) → KeepsCount (effects.Bounds index count)
     bounds_counted (effects.Copied site) count h g c u e =
@@ -339,12 +314,7 @@ module _ (setting : Setting) (number : ℕ) (targets : List Target) (uniques : L
 
         by : (d : Datum) (v : State) → C (serials d ++ []) v → values.bounded setting count d v ≡ Go u → C [] u
         by (Number n) v k x = subst (C []) (within _ v x) k
-        by Gone v k x = absurd (let never : ⊥ = cc in never)
-        by (Truth y) v k x = absurd (let never : ⊥ = cc in never)
-        by UnitValue v k x = absurd (let never : ⊥ = cc in never)
-        by (Aggregate y s p) v k x = absurd (let never : ⊥ = cc in never)
-        by (Box s i inside) v k x = absurd (let never : ⊥ = cc in never)
-        by (Address a) v k x = absurd (let never : ⊥ = cc in never)
+        by other v k x = absurd (let never : ⊥ = cc in never)
     bounds_counted (effects.Moved site) count h g c u e = absurd (false≢true h)
     bounds_counted (effects.Number value kind) count h g c u e = absurd (false≢true h)
     bounds_counted (effects.Truth value) count h g c u e = absurd (false≢true h)

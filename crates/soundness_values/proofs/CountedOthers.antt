@@ -10,9 +10,8 @@ use Rattle.mir_ty.specs.ItemTable.{ItemTable}
 use Rattle.store_model.specs.declared.address.Addr.{Addr}
 use Rattle.store_model.specs.Values.Datum.{Datum, Gone, Number, Truth, UnitValue, Aggregate, Box, Address, data_from}
 use Rattle.store_model.specs.Effects as effects
-use Rattle.store_model.specs.Effects.{EffectSite, Operand, AggregateKind, OfTuple, OfArray, OfVariant, OfClosure, Action, Test, Stuck, Out, Go, Unwind, Halts, Choice, Yes, No, Neither, halting_if}
+use Rattle.store_model.specs.Effects.{EffectSite, Operand, AggregateKind, OfTuple, OfArray, OfVariant, OfClosure, Action, Stuck, Out, Go, Unwind, Halts, Choice, Yes, No, Neither, halting_if}
 use Rattle.store_model.specs.Abstract.Effects as free
-use Rattle.store_model.specs.Abstract.Effects.{AbstractState}
 use Rattle.store_model.specs.Abstract.Presence.{Presence}
 use Rattle.store_model.specs.Concrete.Drops.{drop_impl}
 use Rattle.store_model.specs.Concrete.Effects as values
@@ -80,12 +79,7 @@ module _ (setting : Setting) where
 
   printed_never : (d : Datum) (w u : State) → values.printed setting d w ≡ Unwind u → ⊥
   printed_never (Number n) w u e = let never : ⊥ = cc in never
-  printed_never Gone w u e = let never : ⊥ = cc in never
-  printed_never (Truth x) w u e = let never : ⊥ = cc in never
-  printed_never UnitValue w u e = let never : ⊥ = cc in never
-  printed_never (Aggregate v s p) w u e = let never : ⊥ = cc in never
-  printed_never (Box s i d) w u e = let never : ⊥ = cc in never
-  printed_never (Address x) w u e = let never : ⊥ = cc in never
+  printed_never other w u e = let never : ⊥ = cc in never
 
   built_never : (to : EffectSite) (kind : AggregateKind) (ds : List Datum) (w u : State) →
       values.built setting to kind ds w ≡ Unwind u → ⊥
@@ -127,13 +121,7 @@ module _ (setting : Setting) where
         (λ d v. Go (values.with_events setting
         (option_map_or (values.forgotten setting.items d) (values.type_of_operand setting w operand) []) v))
         (λ d v y k. let never : ⊥ = cc in never) u e
-    acted_never (effects.Free box) w h u e = absurd (false≢true h)
-    acted_never (effects.Compute to operator left right) w h u e = absurd (false≢true h)
-    acted_never (effects.Negate to operand) w h u e = absurd (false≢true h)
-    acted_never (effects.Bounds index count) w h u e = absurd (false≢true h)
-    acted_never (effects.Call to body args) w h u e = absurd (false≢true h)
-    acted_never (effects.CallVirtual to trait_no method args) w h u e = absurd (false≢true h)
-    acted_never (effects.Ask to) w h u e = absurd (false≢true h)
+    acted_never other w h u e = absurd (false≢true h)
 
     pub acts_never_wind : (action : Action) (w : State) → never_panics action ≡ true → (u : State) →
         act setting run action w ≡ Unwind u → ⊥
@@ -217,26 +205,8 @@ module _ (setting : Setting) (number : ℕ) (targets : List Target) (uniques : L
     winds_counted (effects.Call to body args) n h t g c u e = absurd (false≢true n)
     winds_counted (effects.CallVirtual to trait_no method args) n h t g c u e = absurd (false≢true n)
     winds_counted (effects.Free site) n h t g c u e = absurd (false≢true n)
-    winds_counted (effects.Put to from) n h t g c u e =
-        absurd (acts_never_wind setting run (effects.Put to from) w refl u e)
-    winds_counted (effects.Compare to operator left right) n h t g c u e =
-        absurd (acts_never_wind setting run (effects.Compare to operator left right) w refl u e)
-    winds_counted (effects.Not to operand) n h t g c u e =
-        absurd (acts_never_wind setting run (effects.Not to operand) w refl u e)
-    winds_counted (effects.Build to kind parts) n h t g c u e =
-        absurd (acts_never_wind setting run (effects.Build to kind parts) w refl u e)
-    winds_counted (effects.NewBox to content) n h t g c u e =
-        absurd (acts_never_wind setting run (effects.NewBox to content) w refl u e)
-    winds_counted (effects.Unsize to trait_no operand) n h t g c u e =
-        absurd (acts_never_wind setting run (effects.Unsize to trait_no operand) w refl u e)
-    winds_counted (effects.Borrow to unique from) n h t g c u e =
-        absurd (acts_never_wind setting run (effects.Borrow to unique from) w refl u e)
-    winds_counted (effects.Touch site) n h t g c u e =
-        absurd (acts_never_wind setting run (effects.Touch site) w refl u e)
-    winds_counted (effects.Print operand) n h t g c u e =
-        absurd (acts_never_wind setting run (effects.Print operand) w refl u e)
-    winds_counted (effects.Forget operand) n h t g c u e =
-        absurd (acts_never_wind setting run (effects.Forget operand) w refl u e)
+    winds_counted other n h t g c u e =
+        absurd (acts_never_wind setting run other w refl u e)
 
     -- an operand that is a truth value has no number
     chosen_number : (operand : Operand) (t : List Bool) → takes facts operand ≡ true →
@@ -304,12 +274,7 @@ module _ (setting : Setting) (number : ℕ) (targets : List Target) (uniques : L
 
         tested : (d : Datum) → Same (values.variant_tested setting variant d w)
         tested (Aggregate active s p) = by_if _
-        tested Gone = stuck_same
-        tested (Number n) = stuck_same
-        tested (Truth x) = stuck_same
-        tested UnitValue = stuck_same
-        tested (Box s i d) = stuck_same
-        tested (Address a) = stuck_same
+        tested other = stuck_same
 
         by : (r : Reached) → Same (on_reached r (λ (s : Located). values.variant_tested setting variant s.value w)
             (Neither Stuck w) (Neither Stuck w))

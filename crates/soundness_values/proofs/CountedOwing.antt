@@ -12,7 +12,7 @@ use Rattle.store_model.specs.declared.address.Addr.{Addr}
 use Rattle.store_model.specs.Values.Datum.{Datum}
 use Rattle.store_model.specs.Abstract.Effects.{presence}
 use Rattle.store_model.specs.Abstract.Presence.{Presence, itself_gone}
-use Rattle.store_model.specs.Effects.{Halt, Aborted, OutOfTicks, Stuck, StuckAt, BadUse, BadStore, NoChoice, Infeasible, Unreachable}
+use Rattle.store_model.specs.Effects.{Halt, Aborted, OutOfTicks}
 use Rattle.store_model.specs.Concrete.Bodies.{cells_of_youngest}
 use Rattle.store_model.specs.Concrete.Location.{Setting, OfType}
 use Rattle.store_model.specs.Concrete.State.{State, Answer, Returns, Unwinds, HaltsIn, Cells, cell, with_event, without_activation, older_of}
@@ -213,13 +213,7 @@ module _ (p : ProgramTree) (protects : ℕ → ℕ → Bool) (also : ℕ → Als
     counts_lapse event n args w v Aborted h sig e dropping guards before = halted Aborted v (h sig e dropping guards before)
     counts_lapse event n args w v OutOfTicks h sig e dropping guards before =
         halted OutOfTicks v (h sig e dropping guards before)
-    counts_lapse event n args w v Stuck h sig e dropping guards before = absurd h
-    counts_lapse event n args w v (StuckAt body block) h sig e dropping guards before = absurd h
-    counts_lapse event n args w v (BadUse site) h sig e dropping guards before = absurd h
-    counts_lapse event n args w v (BadStore site) h sig e dropping guards before = absurd h
-    counts_lapse event n args w v NoChoice h sig e dropping guards before = absurd h
-    counts_lapse event n args w v Infeasible h sig e dropping guards before = absurd h
-    counts_lapse event n args w v Unreachable h sig e dropping guards before = absurd h
+    counts_lapse event n args w v other h sig e dropping guards before = absurd h
 
     pub counts_no_tick : (event : Event) (n : ℕ) (args : List Datum) (w : State) →
         CountsAnswer event n args w (HaltsIn OutOfTicks w)

@@ -17,20 +17,20 @@ use Rattle.store_model.specs.declared.address.At.TheVariants.{Part, Inside}
 use Rattle.store_model.specs.Values.Datum.{Datum, Data, Gone, Number, Truth, UnitValue, Aggregate, Box, Address, no_part, a_part}
 use Rattle.store_model.specs.Values.Wholeness.{serials}
 use Rattle.store_model.specs.Effects as effects
-use Rattle.store_model.specs.Effects.{EffectSite, Operand, AggregateKind, OfTuple, OfArray, OfVariant, OfClosure, Action, Stuck, Unreachable, Out, Go, Unwind, Halts, on_go, halting_if}
+use Rattle.store_model.specs.Effects.{EffectSite, Operand, Action, Out, Go}
 use Rattle.store_model.specs.Abstract.Effects as free
-use Rattle.store_model.specs.Abstract.Effects.{AbstractState, presence, operand_used, operands_used, panics_by_choice}
+use Rattle.store_model.specs.Abstract.Effects.{AbstractState, presence, operands_used}
 use Rattle.store_model.specs.Abstract.Presence.{Presence, itself_gone, presence_along}
 use Rattle.store_model.specs.Places.Place.{Step, is_reference}
 use Rattle.store_model.specs.Places.TypeForms.{is_bool, same_int, int_kind, box_content}
 use Rattle.store_model.specs.Concrete.Drops.{drop_impl}
 use Rattle.store_model.specs.Concrete.Effects as values
-use Rattle.store_model.specs.Concrete.Effects.{act, or_stuck, evaluate_operand, evaluate_operands, with_operand, with_two_operands, with_operands, put, put_if, tell_after, compared, made, with_impl, whole_at, forgotten, forgotten_parts, made_forgotten, if_typed}
+use Rattle.store_model.specs.Concrete.Effects.{act, with_operand, with_two_operands, put, put_if, compared, forgotten, forgotten_parts, made_forgotten, if_typed}
 use Rattle.store_model.specs.Concrete.Location.{Setting, DynamicType, OfType, concrete_ty, type_of_part}
 use Rattle.store_model.specs.Concrete.State.{State, Bodies}
 use Rattle.soundness_values.proofs.Changing.{runs_alike}
 use Rattle.soundness_values.proofs.Checks as checks
-use Rattle.soundness_values.proofs.Checks.{may_store, takes_well, take_well, after_operand, after_operands, acts_well, part_types}
+use Rattle.soundness_values.proofs.Checks.{may_store, takes_well, after_operand, acts_well}
 use Rattle.soundness_values.proofs.CountedActs.{IsGo, go_fine, fine_first, go_past, went_past, one_then, lands_at, told_at, go_next}
 use Rattle.soundness_values.proofs.CountedForms.{compared_numbers, chosen_go}
 use Rattle.soundness_values.proofs.CountedStores.{AllSpaced}
@@ -102,31 +102,13 @@ module _ (items : ItemTable) where
   no_aggregate None h k = false≢true h
   no_aggregate (Some (Ty.Shared to)) h k = false≢true k
   no_aggregate (Some (Ty.Unique to)) h k = false≢true k
-  no_aggregate (Some (Ty.Int n)) h k = false≢true h
-  no_aggregate (Some Ty.Bool) h k = false≢true h
-  no_aggregate (Some Ty.Unit) h k = false≢true h
-  no_aggregate (Some Ty.Never) h k = false≢true h
-  no_aggregate (Some (Ty.Adt n)) h k = false≢true h
-  no_aggregate (Some (Ty.Tuple ts)) h k = false≢true h
-  no_aggregate (Some (Ty.Array ty n)) h k = false≢true h
-  no_aggregate (Some (Ty.Boxed ty)) h k = false≢true h
-  no_aggregate (Some (Ty.Dyn n)) h k = false≢true h
-  no_aggregate (Some (Ty.Closure n)) h k = false≢true h
+  no_aggregate (Some other) h k = false≢true h
 
   no_box : (o : Option Ty) (id : TyId) → is_reference o ≡ true → box_content o ≡ Some id → ⊥
   no_box None id h k = false≢true h
   no_box (Some (Ty.Shared to)) id h k = none-some id k
   no_box (Some (Ty.Unique to)) id h k = none-some id k
-  no_box (Some (Ty.Int n)) id h k = false≢true h
-  no_box (Some Ty.Bool) id h k = false≢true h
-  no_box (Some Ty.Unit) id h k = false≢true h
-  no_box (Some Ty.Never) id h k = false≢true h
-  no_box (Some (Ty.Adt n)) id h k = false≢true h
-  no_box (Some (Ty.Tuple ts)) id h k = false≢true h
-  no_box (Some (Ty.Array ty n)) id h k = false≢true h
-  no_box (Some (Ty.Boxed ty)) id h k = false≢true h
-  no_box (Some (Ty.Dyn n)) id h k = false≢true h
-  no_box (Some (Ty.Closure n)) id h k = false≢true h
+  no_box (Some other) id h k = false≢true h
 
   pub reference_quiet : (d : Datum) (id : TyId) (p : Presence) → is_reference (type_at items id) ≡ true →
       Fits items (OfType id) p d → serials d ≡ []
@@ -269,18 +251,8 @@ module _ (setting : Setting) (number : ℕ) (targets : List Target) (uniques : L
         numbers_of (Some kind) (Number x) (Number y) v z =
             let n = computed_of to (values.computed operator kind x y) v u z in (n.0, (refl, (refl, n.1)))
         numbers_of None a b v z = absurd (let never : ⊥ = cc in never)
-        numbers_of (Some kind) Gone b v z = absurd (let never : ⊥ = cc in never)
-        numbers_of (Some kind) (Truth x) b v z = absurd (let never : ⊥ = cc in never)
-        numbers_of (Some kind) UnitValue b v z = absurd (let never : ⊥ = cc in never)
-        numbers_of (Some kind) (Aggregate x s p) b v z = absurd (let never : ⊥ = cc in never)
-        numbers_of (Some kind) (Box s i x) b v z = absurd (let never : ⊥ = cc in never)
-        numbers_of (Some kind) (Address x) b v z = absurd (let never : ⊥ = cc in never)
-        numbers_of (Some kind) (Number x) Gone v z = absurd (let never : ⊥ = cc in never)
-        numbers_of (Some kind) (Number x) (Truth y) v z = absurd (let never : ⊥ = cc in never)
-        numbers_of (Some kind) (Number x) UnitValue v z = absurd (let never : ⊥ = cc in never)
-        numbers_of (Some kind) (Number x) (Aggregate y s p) v z = absurd (let never : ⊥ = cc in never)
-        numbers_of (Some kind) (Number x) (Box s i y) v z = absurd (let never : ⊥ = cc in never)
-        numbers_of (Some kind) (Number x) (Address y) v z = absurd (let never : ⊥ = cc in never)
+        numbers_of (Some kind) (Number x) other v z = absurd (let never : ⊥ = cc in never)
+        numbers_of (Some kind) other b v z = absurd (let never : ⊥ = cc in never)
 
     pub negate_counted : (to : EffectSite) (operand : Operand) → KeepsCount (effects.Negate to operand)
     negate_counted to operand h g c u e =
@@ -304,12 +276,7 @@ module _ (setting : Setting) (number : ℕ) (targets : List Target) (uniques : L
         number_of (Some kind) (Number x) v z =
             let n = computed_of to (values.if_within kind (neg_ℤ x)) v u z in (n.0, (refl, n.1))
         number_of None d v z = absurd (let never : ⊥ = cc in never)
-        number_of (Some kind) Gone v z = absurd (let never : ⊥ = cc in never)
-        number_of (Some kind) (Truth x) v z = absurd (let never : ⊥ = cc in never)
-        number_of (Some kind) UnitValue v z = absurd (let never : ⊥ = cc in never)
-        number_of (Some kind) (Aggregate x s p) v z = absurd (let never : ⊥ = cc in never)
-        number_of (Some kind) (Box s i x) v z = absurd (let never : ⊥ = cc in never)
-        number_of (Some kind) (Address x) v z = absurd (let never : ⊥ = cc in never)
+        number_of (Some kind) other v z = absurd (let never : ⊥ = cc in never)
 
     -- an asked number is told
     pub ask_counted : (to : EffectSite) → KeepsCount (effects.Ask to)

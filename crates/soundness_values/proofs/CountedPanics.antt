@@ -9,20 +9,20 @@ use Rattle.mir_base.specs.declared.trace.Why.{Why}
 use Rattle.mir_ty.specs.declared.ty.TyId.{TyId}
 use Rattle.mir_ty.specs.ItemTable.{ItemTable}
 use Rattle.store_model.specs.declared.address.Addr.{Addr}
-use Rattle.store_model.specs.Values.Datum.{Datum, Gone, Number, Truth, UnitValue, Aggregate, Box, Address}
+use Rattle.store_model.specs.Values.Datum.{Datum, Number, Truth, UnitValue}
 use Rattle.store_model.specs.Values.Wholeness.{serials}
 use Rattle.store_model.specs.Effects as effects
-use Rattle.store_model.specs.Effects.{EffectSite, Operand, AggregateKind, OfTuple, OfArray, OfVariant, OfClosure, Action, Stuck, Unreachable, Out, Go, Unwind, Halts, on_go, halting_if}
+use Rattle.store_model.specs.Effects.{EffectSite, Operand, Action, Stuck, Unreachable, Out, Go, Unwind, Halts, on_go, halting_if}
 use Rattle.store_model.specs.Abstract.Effects as free
-use Rattle.store_model.specs.Abstract.Effects.{AbstractState, presence, operand_used, operands_used, panics_by_choice}
+use Rattle.store_model.specs.Abstract.Effects.{AbstractState, operand_used, operands_used, panics_by_choice}
 use Rattle.store_model.specs.Abstract.Presence.{Presence}
 use Rattle.store_model.specs.Places.TypeForms.{same_int, int_kind}
 use Rattle.store_model.specs.Concrete.Effects as values
-use Rattle.store_model.specs.Concrete.Effects.{act, or_stuck, evaluate_operand, evaluate_operands, with_operand, with_two_operands, with_operands, put, put_if, tell_after, compared, made, with_impl, whole_at, forgotten, forgotten_parts, made_forgotten, if_typed}
+use Rattle.store_model.specs.Concrete.Effects.{act, or_stuck, evaluate_operand, with_operand, put, tell_after}
 use Rattle.store_model.specs.Concrete.Location.{Setting, Reached, Reaches, CutOff, Nowhere, reach, on_reached, stored_at}
 use Rattle.store_model.specs.Concrete.State.{State, Bodies}
 use Rattle.soundness_values.proofs.Checks as checks
-use Rattle.soundness_values.proofs.Checks.{may_store, takes_well, take_well, after_operand, after_operands, acts_well, part_types}
+use Rattle.soundness_values.proofs.Checks.{takes_well, after_operand, acts_well}
 use Rattle.soundness_values.proofs.CountedActs.{fine_first, told}
 use Rattle.soundness_values.proofs.CountedStores.{AllSpaced}
 use Rattle.soundness_values.proofs.CountedTakes.{Fine, Counted, Took, takes_one}
@@ -141,18 +141,8 @@ module _ (setting : Setting) (number : ℕ) (targets : List Target) (uniques : L
             C (serials b ++ (serials a ++ [])) v → C [] u
         winds (Some kind) (Number x) (Number y) v z k = computed_winds to (values.computed operator kind x y) v u z k
         winds None a b v z k = absurd (let never : ⊥ = cc in never)
-        winds (Some kind) Gone b v z k = absurd (let never : ⊥ = cc in never)
-        winds (Some kind) (Truth x) b v z k = absurd (let never : ⊥ = cc in never)
-        winds (Some kind) UnitValue b v z k = absurd (let never : ⊥ = cc in never)
-        winds (Some kind) (Aggregate x s p) b v z k = absurd (let never : ⊥ = cc in never)
-        winds (Some kind) (Box s i x) b v z k = absurd (let never : ⊥ = cc in never)
-        winds (Some kind) (Address x) b v z k = absurd (let never : ⊥ = cc in never)
-        winds (Some kind) (Number x) Gone v z k = absurd (let never : ⊥ = cc in never)
-        winds (Some kind) (Number x) (Truth y) v z k = absurd (let never : ⊥ = cc in never)
-        winds (Some kind) (Number x) UnitValue v z k = absurd (let never : ⊥ = cc in never)
-        winds (Some kind) (Number x) (Aggregate y s p) v z k = absurd (let never : ⊥ = cc in never)
-        winds (Some kind) (Number x) (Box s i y) v z k = absurd (let never : ⊥ = cc in never)
-        winds (Some kind) (Number x) (Address y) v z k = absurd (let never : ⊥ = cc in never)
+        winds (Some kind) (Number x) other v z k = absurd (let never : ⊥ = cc in never)
+        winds (Some kind) other b v z k = absurd (let never : ⊥ = cc in never)
 
     pub negate_winds : (to : EffectSite) (operand : Operand) → KeepsWound (effects.Negate to operand)
     negate_winds to operand h f c u e =
@@ -167,12 +157,7 @@ module _ (setting : Setting) (number : ℕ) (targets : List Target) (uniques : L
             C (serials d ++ []) v → C [] u
         winds (Some kind) (Number x) v z k = computed_winds to (values.if_within kind (neg_ℤ x)) v u z k
         winds None d v z k = absurd (let never : ⊥ = cc in never)
-        winds (Some kind) Gone v z k = absurd (let never : ⊥ = cc in never)
-        winds (Some kind) (Truth x) v z k = absurd (let never : ⊥ = cc in never)
-        winds (Some kind) UnitValue v z k = absurd (let never : ⊥ = cc in never)
-        winds (Some kind) (Aggregate x s p) v z k = absurd (let never : ⊥ = cc in never)
-        winds (Some kind) (Box s i x) v z k = absurd (let never : ⊥ = cc in never)
-        winds (Some kind) (Address x) v z k = absurd (let never : ⊥ = cc in never)
+        winds (Some kind) other v z k = absurd (let never : ⊥ = cc in never)
 
     pub bounds_wind : (index : Operand) (count : ℕ) → KeepsWound (effects.Bounds index count)
     bounds_wind (effects.Copied site) count h f c u e =
@@ -190,12 +175,7 @@ module _ (setting : Setting) (number : ℕ) (targets : List Target) (uniques : L
 
         winds : (d : Datum) (v : State) → values.bounded setting count d v ≡ Unwind u → C (serials d ++ []) v → C [] u
         winds (Number n) v x k = within _ v x k
-        winds Gone v x k = absurd (let never : ⊥ = cc in never)
-        winds (Truth y) v x k = absurd (let never : ⊥ = cc in never)
-        winds UnitValue v x k = absurd (let never : ⊥ = cc in never)
-        winds (Aggregate y s p) v x k = absurd (let never : ⊥ = cc in never)
-        winds (Box s i inside) v x k = absurd (let never : ⊥ = cc in never)
-        winds (Address a) v x k = absurd (let never : ⊥ = cc in never)
+        winds other v x k = absurd (let never : ⊥ = cc in never)
     bounds_wind (effects.Moved site) count h f c u e = absurd (false≢true h)
     bounds_wind (effects.Number value kind) count h f c u e = absurd (false≢true h)
     bounds_wind (effects.Truth value) count h f c u e = absurd (false≢true h)

@@ -12,11 +12,11 @@ use Rattle.mir_ty.specs.Facts.{needs_drop}
 use Rattle.mir_ty.specs.ItemTable.{ItemTable, type_at}
 use Rattle.store_model.specs.declared.address.Addr.{Addr}
 use Rattle.store_model.specs.declared.address.At.{At}
-use Rattle.store_model.specs.Values.Datum.{Datum, Gone, Number, Truth, UnitValue, Aggregate, Box, Address}
+use Rattle.store_model.specs.Values.Datum.{Datum, Gone, Aggregate}
 use Rattle.store_model.specs.Values.Wholeness.{serials}
 use Rattle.store_model.specs.Effects.{EffectSite, Stuck, Go, Halts}
 use Rattle.store_model.specs.Abstract.Effects as free
-use Rattle.store_model.specs.Abstract.Effects.{AbstractState, presence, may_store, when, watched_at, operand_used, operands_used}
+use Rattle.store_model.specs.Abstract.Effects.{presence, may_store, watched_at}
 use Rattle.store_model.specs.Abstract.Presence.{Presence, itself_gone, presence_along}
 use Rattle.store_model.specs.Places.Place.{Place, is_reference}
 use Rattle.store_model.specs.Places.TypeForms.{is_dyn}
@@ -238,13 +238,8 @@ module _ (setting : Setting) (number : ℕ) (targets : List Target) (uniques : L
           go_same x = cc
 
           quiet_head : (d : Datum) (k : ℕ) → Quiet items d → head_serial d ≡ Some k → ⊥
-          quiet_head Gone k q h = none-some k h
-          quiet_head (Number n) k q h = none-some k h
-          quiet_head (Truth b) k q h = none-some k h
-          quiet_head UnitValue k q h = none-some k h
-          quiet_head (Address a) k q h = none-some k h
-          quiet_head (Box x i inside) k q h = none-some k h
           quiet_head (Aggregate v x parts) k q h = none-some k (sym q.0 ∙ h)
+          quiet_head other k q h = none-some k h
 
           plain : is_dyn (ty_of items local_ty is_target to.place) ≡ false
           plain = not_so (is_dyn (ty_of items local_ty is_target to.place))

@@ -36,17 +36,6 @@ module _ (items : ItemTable) where
 
   pub has_drop : (of : ℕ × ℕ) (o : Option Ty) → drop_impl items o ≡ Some of → HasDrop of o
   has_drop of None e = absurd (none-some of e)
-  has_drop of (Some (Ty.Int kind)) e = absurd (none-some of e)
-  has_drop of (Some Ty.Bool) e = absurd (none-some of e)
-  has_drop of (Some Ty.Unit) e = absurd (none-some of e)
-  has_drop of (Some Ty.Never) e = absurd (none-some of e)
-  has_drop of (Some (Ty.Tuple parts)) e = absurd (none-some of e)
-  has_drop of (Some (Ty.Array element count)) e = absurd (none-some of e)
-  has_drop of (Some (Ty.Boxed content)) e = absurd (none-some of e)
-  has_drop of (Some (Ty.Dyn n)) e = absurd (none-some of e)
-  has_drop of (Some (Ty.Shared to)) e = absurd (none-some of e)
-  has_drop of (Some (Ty.Unique to)) e = absurd (none-some of e)
-  has_drop of (Some (Ty.Closure n)) e = absurd (none-some of e)
   has_drop of (Some (Ty.Adt n)) e = by (slice_get items.adts n) refl e
     where
       of_body : (adt : Adt) → slice_get items.adts n ≡ Some adt → (o : Option ℕ) → adt.drop_body ≡ o →
@@ -60,6 +49,7 @@ module _ (items : ItemTable) where
           HasDrop of (Some (Ty.Adt n))
       by None d k = absurd (none-some of k)
       by (Some adt) d k = of_body adt d adt.drop_body refl k
+  has_drop of (Some other) e = absurd (none-some of e)
 
   -- `&mut self` is the only parameter
   abbrev IsOneSelf : ℕ → List TyId → Bool
@@ -143,14 +133,4 @@ module _ (p : ProgramTree) (typed : WellTyped p) where
       unit_is : (o : Option Ty) → option_map_or is_unit_ty o false ≡ true → o ≡ Some Ty.Unit
       unit_is None h = absurd (false≢true h)
       unit_is (Some Ty.Unit) h = refl
-      unit_is (Some (Ty.Int kind)) h = absurd (false≢true h)
-      unit_is (Some Ty.Bool) h = absurd (false≢true h)
-      unit_is (Some Ty.Never) h = absurd (false≢true h)
-      unit_is (Some (Ty.Adt n)) h = absurd (false≢true h)
-      unit_is (Some (Ty.Tuple parts)) h = absurd (false≢true h)
-      unit_is (Some (Ty.Array element count)) h = absurd (false≢true h)
-      unit_is (Some (Ty.Boxed content)) h = absurd (false≢true h)
-      unit_is (Some (Ty.Dyn n)) h = absurd (false≢true h)
-      unit_is (Some (Ty.Shared to)) h = absurd (false≢true h)
-      unit_is (Some (Ty.Unique to)) h = absurd (false≢true h)
-      unit_is (Some (Ty.Closure n)) h = absurd (false≢true h)
+      unit_is (Some other) h = absurd (false≢true h)

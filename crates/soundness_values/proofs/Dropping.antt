@@ -1,12 +1,11 @@
 -- Drops of a checked run: an entry of a scope is gone then, and a place that is assigned is empty until it is filled;
 -- what needs no dropping never panics. So each follows that of a free run.
-use Rattle.std.proofs.Common.{◌≡◌, ◌⊎◌, inl, inr, ℕ, zero, suc, ◌+◌, ◌<◌, ◌≤◌, ◌==◌, ◌&&◌, ◌||◌, not, Bool, true, false, List, [], ◌∷◌, ◌++◌, length, Option, Some, None, is_some, refl, ap, sym, ◌∙◌, subst, arith}
+use Rattle.std.proofs.Common.{◌≡◌, ◌⊎◌, inl, inr, ℕ, zero, suc, ◌<◌, ◌==◌, ◌||◌, not, Bool, true, false, List, [], ◌∷◌, length, Option, Some, None, is_some, refl, ap, sym, ◌∙◌, subst, arith}
 use Rattle.std.specs.Prelude.{slice_get, option_and_then}
 use Rattle.std.specs.Option.{option_map_or}
 use Rattle.std.proofs.lemmas.Bool.{false≢true}
 use Rattle.std.proofs.lemmas.Bool.Decides.{Decides-eqb}
 use Rattle.std.proofs.lemmas.Option.{none-some}
-use Rattle.mir_base.specs.Once.{times}
 use Rattle.mir_ty.proofs.LeastRelations.{needs_drop-rules}
 use Rattle.mir_ty.specs.declared.def.ImplDef.{ImplDef}
 use Rattle.mir_ty.specs.declared.ty.Ty.{Ty}
@@ -18,11 +17,10 @@ use Rattle.store_model.proofs.Effects.Following.{Relation}
 use Rattle.store_model.specs.declared.address.Addr.{Addr}
 use Rattle.store_model.specs.declared.address.At.{At}
 use Rattle.store_model.specs.Values.Datum as data_of
-use Rattle.store_model.specs.Values.Datum.{Datum, Data, Gone, Number, Truth, UnitValue, Aggregate, Box, Address, no_part}
+use Rattle.store_model.specs.Values.Datum.{Datum, Data, Gone, no_part}
 use Rattle.store_model.specs.Values.Access.{part_at}
 use Rattle.store_model.specs.Values.Wholeness.{is_whole}
-use Rattle.store_model.specs.Effects as effects
-use Rattle.store_model.specs.Effects.{EffectSite, Mode, Normal, Unwinding, Halt, Aborted, OutOfTicks, Stuck, StuckAt, BadUse, BadStore, NoChoice, Infeasible, Unreachable, Out, Go, Unwind, Halts}
+use Rattle.store_model.specs.Effects.{EffectSite, Mode, Halt, Aborted, OutOfTicks, Stuck, BadStore, Out, Go, Unwind, Halts}
 use Rattle.store_model.specs.Abstract.Effects as free
 use Rattle.store_model.specs.Abstract.Effects.{AbstractState, presence, with_presence, may_store, watched_at, acted}
 use Rattle.store_model.specs.Abstract.Presence.{Presence, is_present, presence_along}
@@ -31,35 +29,33 @@ use Rattle.store_model.specs.Places.TypeForms.{is_dyn}
 use Rattle.store_model.specs.Concrete.Effects as values
 use Rattle.store_model.specs.Concrete.Effects.{dropped_if, nothing_if}
 use Rattle.store_model.specs.Concrete.Drops.{Begins, still_of, drop_at}
-use Rattle.store_model.specs.Concrete.Location.{Setting, DynamicType, OfType, OfObject, adt_ty, concrete_ty, Located, located_at, on_reached, stored_at}
-use Rattle.store_model.specs.Concrete.State.{State, Bodies, cell}
-use Rattle.soundness_values.proofs.Doing.{FollowsOut, goes_on, unwinds, lapsed, refused, out_after}
+use Rattle.store_model.specs.Concrete.Location.{Setting, DynamicType, OfType, OfObject, adt_ty, concrete_ty, on_reached, stored_at}
+use Rattle.store_model.specs.Concrete.State.{State, Bodies}
+use Rattle.soundness_values.proofs.Doing.{FollowsOut, goes_on, unwinds, lapsed, refused}
 use Rattle.soundness_values.specs.Frames.{Alike}
 use Rattle.soundness_values.specs.Typed.{is_found, is_impl_for}
 use Rattle.soundness_values.proofs.Facts.{Facts, without}
 use Rattle.soundness_values.proofs.Fits.{Fits, whole_if_present}
 use Rattle.soundness_values.proofs.Known.{Target}
-use Rattle.soundness_values.proofs.Counts.{in_value, held, held_stored}
-use Rattle.soundness_values.proofs.Dropped.{Lapses, feeding}
+use Rattle.soundness_values.proofs.Counts.{held_stored}
+use Rattle.soundness_values.proofs.Dropped.{feeding}
 use Rattle.soundness_values.proofs.Checked.{Checking, with_facts}
 use Rattle.soundness_values.proofs.Relating.{Kept, checked_rel}
 use Rattle.soundness_values.proofs.LadderEnds as ladder
 use Rattle.soundness_values.proofs.FoundAlike.{of_found}
 use Rattle.soundness_values.proofs.LadderEnds.{Room, MayEnd, Told, Done, goes, panics, ends, DropsKeep}
 use Rattle.soundness_values.proofs.Ladder.{dropping_done}
-use Rattle.soundness_values.proofs.Along.{path_at, containers_along, IsFound, as_type, as_object}
+use Rattle.soundness_values.proofs.Along.{containers_along, IsFound, as_type, as_object}
 use Rattle.soundness_values.proofs.Quiet.{quiet, GoesOn, quietly, no_step, drops_quietly}
 use Rattle.soundness_values.proofs.Reached.{reached_stands}
 use Rattle.soundness_values.proofs.Running.{sure_place, Passed, Runs, Lies, in_local, behind, lies}
-use Rattle.soundness_values.proofs.Reaching.{Stands, stands, stands_whole, own_watched, stored}
-use Rattle.soundness_values.proofs.Changing.{own_changed, own_at, runs_alike, runs_without}
-use Rattle.soundness_values.proofs.Checks.{id_of, ty_of, needs, is_value, may_change, no_steps, is_normal, may_drop}
+use Rattle.soundness_values.proofs.Reaching.{stands, stands_whole, own_watched, stored}
+use Rattle.soundness_values.proofs.Changing.{own_changed, runs_alike, runs_without}
+use Rattle.soundness_values.proofs.Checks.{needs, no_steps}
 use Rattle.soundness_values.proofs.Sealed.{Sealed, AllSealed, sealed_if_whole}
-use Rattle.soundness_values.proofs.Standings.{alike_itself}
 use Rattle.soundness_values.proofs.StillTyped.{still_itself}
-use Rattle.soundness_values.proofs.Taking.{first, second, not_so, rel}
-use Rattle.soundness_values.proofs.Testing.{none_of, whole_place, sure_typed}
-use Rattle.soundness_values.proofs.Watching.{watched_own, store_own}
+use Rattle.soundness_values.proofs.Taking.{first, rel}
+use Rattle.soundness_values.proofs.Watching.{store_own}
 use Rattle.soundness_values.proofs.Ways.{Way, ends, to_part, to_field, to_content, to_element, has_index, whole_along, fits_at_end, whole_at_end}
 use Rattle.soundness_values.proofs.Ways as ways
 use Rattle.soundness_values.proofs.Emptied.{Hole}
@@ -245,13 +241,7 @@ module _ (setting : Setting) (number : ℕ) (targets : List Target) (uniques : L
         MayEnd halt → FollowsOut (rels goal) tt (Halts halt v) g
     lapses_so Aborted v g goal h = lapsed tt Aborted v g tt
     lapses_so OutOfTicks v g goal h = lapsed tt OutOfTicks v g tt
-    lapses_so Stuck v g goal h = absurd h
-    lapses_so (StuckAt b c) v g goal h = absurd h
-    lapses_so (BadUse at) v g goal h = absurd h
-    lapses_so (BadStore at) v g goal h = absurd h
-    lapses_so NoChoice v g goal h = absurd h
-    lapses_so Infeasible v g goal h = absurd h
-    lapses_so Unreachable v g goal h = absurd h
+    lapses_so other v g goal h = absurd h
 
     module _ (node key : ℕ) (s : S facts (whole_local key) ≡ true) where
       abbrev site : EffectSite
@@ -359,13 +349,7 @@ module _ (setting : Setting) (number : ℕ) (targets : List Target) (uniques : L
           FollowsOut (checked_rel said halted) tt (Halts halt v) g
       assigned_lapses Aborted v g h k = lapsed tt Aborted v g k
       assigned_lapses OutOfTicks v g h k = lapsed tt OutOfTicks v g k
-      assigned_lapses Stuck v g h k = absurd h
-      assigned_lapses (StuckAt b c) v g h k = absurd h
-      assigned_lapses (BadUse at) v g h k = absurd h
-      assigned_lapses (BadStore at) v g h k = absurd h
-      assigned_lapses NoChoice v g h k = absurd h
-      assigned_lapses Infeasible v g h k = absurd h
-      assigned_lapses Unreachable v g h k = absurd h
+      assigned_lapses other v g h k = absurd h
 
       still_assigned : (end : TyId) → place_ty items local_ty site.place ≡ Some end → (type_at items end ≡ None → ⊥)
       still_assigned end e = typed_if_needs items end

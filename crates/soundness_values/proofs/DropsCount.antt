@@ -69,17 +69,7 @@ still_so items (OfObject id impl_no) h = by (type_at items id) h
         still_of items (OfObject id impl_no) (OfObject id impl_no) ≡ true
     by (Some (Ty.Dyn n)) k = of_impl n (slice_get items.impls impl_no) refl k
     by None k = absurd (false≢true k)
-    by (Some (Ty.Int x)) k = absurd (false≢true k)
-    by (Some Ty.Bool) k = absurd (false≢true k)
-    by (Some Ty.Unit) k = absurd (false≢true k)
-    by (Some Ty.Never) k = absurd (false≢true k)
-    by (Some (Ty.Adt x)) k = absurd (false≢true k)
-    by (Some (Ty.Tuple x)) k = absurd (false≢true k)
-    by (Some (Ty.Array x y)) k = absurd (false≢true k)
-    by (Some (Ty.Boxed x)) k = absurd (false≢true k)
-    by (Some (Ty.Shared x)) k = absurd (false≢true k)
-    by (Some (Ty.Unique x)) k = absurd (false≢true k)
-    by (Some (Ty.Closure x)) k = absurd (false≢true k)
+    by (Some other) k = absurd (false≢true k)
 
 no_more : (p : List At) → p ++ [] ≡ p
 no_more [] = refl

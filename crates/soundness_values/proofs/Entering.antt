@@ -1,7 +1,7 @@
 -- From the contract of a call to what is known as its body begins: which of its parameters are references, what they
 -- name, and that all else is known.
-use Rattle.std.proofs.Common.{◌≡◌, ◌≢◌, ◌⊎◌, inl, inr, ℕ, zero, suc, ◌+◌, ◌<◌, ◌≤◌, ◌==◌, ◌&&◌, ◌||◌, Bool, true, false, List, [], ◌∷◌, ◌++◌, length, Option, Some, None, if◌then◌else◌, refl, ap, sym, ◌∙◌, subst, arith}
-use Rattle.std.specs.Prelude.{slice_get, option_and_then}
+use Rattle.std.proofs.Common.{◌≡◌, ◌≢◌, ℕ, zero, suc, ◌+◌, ◌≤◌, ◌==◌, ◌||◌, Bool, true, false, List, [], ◌∷◌, ◌++◌, length, Option, Some, None, if◌then◌else◌, refl, ap, sym, ◌∙◌, subst, arith}
+use Rattle.std.specs.Prelude.{slice_get}
 use Rattle.std.specs.List.{range_with_len}
 use Rattle.std.proofs.lemmas.Bool.{false≢true}
 use Rattle.std.proofs.lemmas.Bool.Decides.{Decides-eqb}
@@ -11,17 +11,17 @@ use Rattle.mir_ty.specs.declared.ty.Ty.{Ty}
 use Rattle.mir_ty.specs.declared.ty.TyId.{TyId}
 use Rattle.mir_ty.specs.ItemTable.{ItemTable, type_at}
 use Rattle.store_model.specs.declared.address.Addr.{Addr}
-use Rattle.store_model.specs.Values.Datum.{Datum, Gone, Number, Truth, UnitValue, Aggregate, Box, Address}
+use Rattle.store_model.specs.Values.Datum.{Datum, Address}
 use Rattle.store_model.specs.Abstract.Effects.{params_present}
-use Rattle.store_model.specs.Abstract.Presence.{Presence, is_present}
+use Rattle.store_model.specs.Abstract.Presence.{is_present}
 use Rattle.store_model.specs.Places.Place.{is_reference}
-use Rattle.store_model.specs.Concrete.Location.{Setting, OfType, Located, located_at}
+use Rattle.store_model.specs.Concrete.Location.{Setting, OfType}
 use Rattle.store_model.specs.Concrete.State.{State, cell}
 use Rattle.src_meaning.specs.Programs.{arguments_from}
 use Rattle.soundness_values.specs.Frames.{Apart}
 use Rattle.soundness_values.proofs.Behind.{names_it}
 use Rattle.soundness_values.proofs.Bodies.{begun}
-use Rattle.soundness_values.proofs.Contracts.{target_if, targets_of, unique_if, uniques_of, AloneFrom, AllAlone, AreWhole, MayRun, all_unique_apart}
+use Rattle.soundness_values.proofs.Contracts.{target_if, targets_of, unique_if, uniques_of, AllAlone, AreWhole, MayRun, all_unique_apart}
 use Rattle.soundness_values.proofs.Facts.{Each, no_facts}
 use Rattle.soundness_values.proofs.Forms.{address_of}
 use Rattle.soundness_values.proofs.Fits.{Fits, whole_if_present}
@@ -71,29 +71,10 @@ module _ (items : ItemTable) where
           refl e
       by (Some (Ty.Shared to)) e (Address a) = one_there (record { unique = false; local = l; address = a; to = to })
           refl refl e
-      by (Some (Ty.Unique to)) e Gone = none_there
-      by (Some (Ty.Unique to)) e (Number n) = none_there
-      by (Some (Ty.Unique to)) e (Truth b) = none_there
-      by (Some (Ty.Unique to)) e UnitValue = none_there
-      by (Some (Ty.Unique to)) e (Aggregate v s p) = none_there
-      by (Some (Ty.Unique to)) e (Box s i x) = none_there
-      by (Some (Ty.Shared to)) e Gone = none_there
-      by (Some (Ty.Shared to)) e (Number n) = none_there
-      by (Some (Ty.Shared to)) e (Truth b) = none_there
-      by (Some (Ty.Shared to)) e UnitValue = none_there
-      by (Some (Ty.Shared to)) e (Aggregate v s p) = none_there
-      by (Some (Ty.Shared to)) e (Box s i x) = none_there
       by None e d = none_there
-      by (Some (Ty.Int k)) e d = none_there
-      by (Some Ty.Bool) e d = none_there
-      by (Some Ty.Unit) e d = none_there
-      by (Some Ty.Never) e d = none_there
-      by (Some (Ty.Adt n)) e d = none_there
-      by (Some (Ty.Tuple ts)) e d = none_there
-      by (Some (Ty.Array t n)) e d = none_there
-      by (Some (Ty.Boxed t)) e d = none_there
-      by (Some (Ty.Dyn n)) e d = none_there
-      by (Some (Ty.Closure n)) e d = none_there
+      by (Some (Ty.Unique to)) e other = none_there
+      by (Some (Ty.Shared to)) e other = none_there
+      by (Some other) e d = none_there
 
   later_param : (l : ℕ) (id : TyId) (ids : List TyId) (d : Datum) (ds : List Datum) (t : Target) →
       Param (suc l) ids ds t → Param l (id ∷ ids) (d ∷ ds) t
@@ -202,16 +183,7 @@ module _ (items : ItemTable) where
   names_some (Some (Ty.Unique to)) h = (true, (to, refl))
   names_some (Some (Ty.Shared to)) h = (false, (to, refl))
   names_some None h = absurd (false≢true h)
-  names_some (Some (Ty.Int k)) h = absurd (false≢true h)
-  names_some (Some Ty.Bool) h = absurd (false≢true h)
-  names_some (Some Ty.Unit) h = absurd (false≢true h)
-  names_some (Some Ty.Never) h = absurd (false≢true h)
-  names_some (Some (Ty.Adt n)) h = absurd (false≢true h)
-  names_some (Some (Ty.Tuple ts)) h = absurd (false≢true h)
-  names_some (Some (Ty.Array t n)) h = absurd (false≢true h)
-  names_some (Some (Ty.Boxed t)) h = absurd (false≢true h)
-  names_some (Some (Ty.Dyn n)) h = absurd (false≢true h)
-  names_some (Some (Ty.Closure n)) h = absurd (false≢true h)
+  names_some (Some other) h = absurd (false≢true h)
 
 module _ (setting : Setting) where
   abbrev items_of : ItemTable

@@ -59,22 +59,15 @@ pub record IsAddress (d : Datum) : Type 0 where
 module _ (items : ItemTable) where
   pub has_parts : (ty : Ty) (variant n : ℕ) (next : TyId) → slice_get (parts_of items ty variant) n ≡ Some next →
       HasParts ty
-  has_parts (Ty.Int k) variant n next e = absurd (none-some next e)
-  has_parts Ty.Bool variant n next e = absurd (none-some next e)
-  has_parts Ty.Unit variant n next e = absurd (none-some next e)
-  has_parts Ty.Never variant n next e = absurd (none-some next e)
   has_parts (Ty.Adt m) variant n next e =
       record { no_number = refl; no_truth = refl; no_unit = refl; no_reference = refl; no_box = refl }
   has_parts (Ty.Tuple ts) variant n next e =
       record { no_number = refl; no_truth = refl; no_unit = refl; no_reference = refl; no_box = refl }
   has_parts (Ty.Array t c) variant n next e =
       record { no_number = refl; no_truth = refl; no_unit = refl; no_reference = refl; no_box = refl }
-  has_parts (Ty.Boxed t) variant n next e = absurd (none-some next e)
-  has_parts (Ty.Dyn m) variant n next e = absurd (none-some next e)
-  has_parts (Ty.Shared t) variant n next e = absurd (none-some next e)
-  has_parts (Ty.Unique t) variant n next e = absurd (none-some next e)
   has_parts (Ty.Closure m) variant n next e =
       record { no_number = refl; no_truth = refl; no_unit = refl; no_reference = refl; no_box = refl }
+  has_parts other variant n next e = absurd (none-some next e)
 
   pub array_parts : (e : TyId) (count : ℕ) → HasParts (Ty.Array e count)
   array_parts e count = record {
@@ -166,76 +159,31 @@ module _ (items : ItemTable) where
       no_number : {A : Type 0} (ty : Ty) → is_reference (Some ty) ≡ true → int_kind (Some ty) ≡ Some k.1.0 → A
       no_number (Ty.Shared t) h e = absurd (none-some k.1.0 e)
       no_number (Ty.Unique t) h e = absurd (none-some k.1.0 e)
-      no_number (Ty.Int x) h e = absurd (false≢true h)
-      no_number Ty.Bool h e = absurd (false≢true h)
-      no_number Ty.Unit h e = absurd (false≢true h)
-      no_number Ty.Never h e = absurd (false≢true h)
-      no_number (Ty.Adt x) h e = absurd (false≢true h)
-      no_number (Ty.Tuple x) h e = absurd (false≢true h)
-      no_number (Ty.Array x y) h e = absurd (false≢true h)
-      no_number (Ty.Boxed x) h e = absurd (false≢true h)
-      no_number (Ty.Dyn x) h e = absurd (false≢true h)
-      no_number (Ty.Closure x) h e = absurd (false≢true h)
+      no_number other h e = absurd (false≢true h)
   address_of (Truth truth) found p ty is_ty h there k = either ty h (sym (ap is_bool is_ty) ∙ k.1)
     where
       either : {A : Type 0} (ty : Ty) → is_reference (Some ty) ≡ true → is_bool (Some ty) ≡ true → A
       either Ty.Bool h e = absurd (false≢true h)
-      either (Ty.Shared t) h e = absurd (false≢true e)
-      either (Ty.Unique t) h e = absurd (false≢true e)
-      either (Ty.Int x) h e = absurd (false≢true e)
-      either Ty.Unit h e = absurd (false≢true e)
-      either Ty.Never h e = absurd (false≢true e)
-      either (Ty.Adt x) h e = absurd (false≢true e)
-      either (Ty.Tuple x) h e = absurd (false≢true e)
-      either (Ty.Array x y) h e = absurd (false≢true e)
-      either (Ty.Boxed x) h e = absurd (false≢true e)
-      either (Ty.Dyn x) h e = absurd (false≢true e)
-      either (Ty.Closure x) h e = absurd (false≢true e)
+      either other h e = absurd (false≢true e)
   address_of UnitValue found p ty is_ty h there k = either ty h (sym (ap is_unit is_ty) ∙ k.1)
     where
       either : {A : Type 0} (ty : Ty) → is_reference (Some ty) ≡ true → is_unit (Some ty) ≡ true → A
       either Ty.Unit h e = absurd (false≢true h)
-      either (Ty.Shared t) h e = absurd (false≢true e)
-      either (Ty.Unique t) h e = absurd (false≢true e)
-      either (Ty.Int x) h e = absurd (false≢true e)
-      either Ty.Bool h e = absurd (false≢true e)
-      either Ty.Never h e = absurd (false≢true e)
-      either (Ty.Adt x) h e = absurd (false≢true e)
-      either (Ty.Tuple x) h e = absurd (false≢true e)
-      either (Ty.Array x y) h e = absurd (false≢true e)
-      either (Ty.Boxed x) h e = absurd (false≢true e)
-      either (Ty.Dyn x) h e = absurd (false≢true e)
-      either (Ty.Closure x) h e = absurd (false≢true e)
+      either other h e = absurd (false≢true e)
   address_of (Aggregate variant serial parts) found p ty is_ty h there k =
       either ty h (sym (ap is_aggregate is_ty) ∙ first_so (is_aggregate (concrete_ty items found)) _ k.2)
     where
       either : {A : Type 0} (ty : Ty) → is_reference (Some ty) ≡ true → is_aggregate (Some ty) ≡ true → A
-      either (Ty.Shared t) h e = absurd (false≢true e)
-      either (Ty.Unique t) h e = absurd (false≢true e)
-      either (Ty.Int x) h e = absurd (false≢true e)
-      either Ty.Bool h e = absurd (false≢true e)
-      either Ty.Unit h e = absurd (false≢true e)
-      either Ty.Never h e = absurd (false≢true e)
       either (Ty.Adt x) h e = absurd (false≢true h)
       either (Ty.Tuple x) h e = absurd (false≢true h)
       either (Ty.Array x y) h e = absurd (false≢true h)
-      either (Ty.Boxed x) h e = absurd (false≢true e)
-      either (Ty.Dyn x) h e = absurd (false≢true e)
       either (Ty.Closure x) h e = absurd (false≢true h)
+      either other h e = absurd (false≢true e)
   address_of (Box serial impl_no inside) found p ty is_ty h there k =
       either ty h (sym (ap box_content is_ty) ∙ k.1.1)
     where
       either : {A : Type 0} (ty : Ty) → is_reference (Some ty) ≡ true → box_content (Some ty) ≡ Some k.1.0 → A
       either (Ty.Shared t) h e = absurd (none-some k.1.0 e)
       either (Ty.Unique t) h e = absurd (none-some k.1.0 e)
-      either (Ty.Int x) h e = absurd (false≢true h)
-      either Ty.Bool h e = absurd (false≢true h)
-      either Ty.Unit h e = absurd (false≢true h)
-      either Ty.Never h e = absurd (false≢true h)
-      either (Ty.Adt x) h e = absurd (false≢true h)
-      either (Ty.Tuple x) h e = absurd (false≢true h)
-      either (Ty.Array x y) h e = absurd (false≢true h)
-      either (Ty.Boxed x) h e = absurd (false≢true h)
-      either (Ty.Dyn x) h e = absurd (false≢true h)
-      either (Ty.Closure x) h e = absurd (false≢true h)
+      either other h e = absurd (false≢true h)
   address_of (Address address) found p ty is_ty h there k = record { address = address; is_it = refl }

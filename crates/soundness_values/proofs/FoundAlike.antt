@@ -60,17 +60,7 @@ module _ (items : ItemTable) where
       of_adt None e t i h = absurd (false≢true h)
       of_adt (Some n) e None i h = absurd (false≢true h)
       of_adt (Some n) e (Some (Ty.Adt m)) i h = ap (λ x. Some (Ty.Adt x)) ((Decides-eqb n m).0 h)
-      of_adt (Some n) e (Some (Ty.Int x)) i h = absurd (false≢true h)
-      of_adt (Some n) e (Some Ty.Bool) i h = absurd (false≢true h)
-      of_adt (Some n) e (Some Ty.Unit) i h = absurd (false≢true h)
-      of_adt (Some n) e (Some Ty.Never) i h = absurd (false≢true h)
-      of_adt (Some n) e (Some (Ty.Tuple x)) i h = absurd (false≢true h)
-      of_adt (Some n) e (Some (Ty.Array x y)) i h = absurd (false≢true h)
-      of_adt (Some n) e (Some (Ty.Boxed x)) i h = absurd (false≢true h)
-      of_adt (Some n) e (Some (Ty.Dyn x)) i h = absurd (false≢true h)
-      of_adt (Some n) e (Some (Ty.Shared x)) i h = absurd (false≢true h)
-      of_adt (Some n) e (Some (Ty.Unique x)) i h = absurd (false≢true h)
-      of_adt (Some n) e (Some (Ty.Closure x)) i h = absurd (false≢true h)
+      of_adt (Some n) e (Some other) i h = absurd (false≢true h)
 
       by : (b : Bool) → (to.0 == id.0) ≡ b →
           (b || option_map_or (λ n. is_adt n (type_at items to)) (adt_of_impl items impl_no) false) ≡ true →

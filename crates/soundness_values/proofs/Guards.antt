@@ -12,7 +12,7 @@ use Rattle.store_model.proofs.Values.Access.{value_at-append}
 use Rattle.store_model.specs.declared.address.Addr.{Addr}
 use Rattle.store_model.specs.declared.address.At.{At}
 use Rattle.store_model.specs.declared.address.At.TheVariants.{Part, Inside}
-use Rattle.store_model.specs.Values.Datum.{Datum, Gone, Number, Truth, UnitValue, Aggregate, Box, Address}
+use Rattle.store_model.specs.Values.Datum.{Datum, Gone, Aggregate}
 use Rattle.store_model.specs.Values.Access.{AreApart, part_at, with_part, value_at, replaced}
 use Rattle.store_model.specs.Values.Wholeness.{serials_of_all}
 use Rattle.store_model.specs.Concrete.Location.{Setting, Located, located_at, stored_at, root_of}
@@ -128,12 +128,6 @@ pub data Spares (a b : Addr) : Type 0 where
 
 head_replaced : (step : At) (rest : List At) (new root : Datum) (k : ℕ) → head_serial root ≡ Some k →
     head_serial (replaced (step ∷ rest) new root) ≡ Some k
-head_replaced step rest new Gone k e = absurd (none-some k e)
-head_replaced step rest new (Number number) k e = absurd (none-some k e)
-head_replaced step rest new (Truth truth) k e = absurd (none-some k e)
-head_replaced step rest new UnitValue k e = absurd (none-some k e)
-head_replaced step rest new (Address address) k e = absurd (none-some k e)
-head_replaced step rest new (Box serial impl_no inside) k e = absurd (none-some k e)
 head_replaced Inside rest new (Aggregate variant serial parts) k e = e
 head_replaced (Part n) rest new (Aggregate variant serial parts) k e = by (part_at n parts)
   where
@@ -142,21 +136,17 @@ head_replaced (Part n) rest new (Aggregate variant serial parts) k e = by (part_
         (Aggregate variant serial parts)) ≡ Some k
     by None = e
     by (Some x) = e
+head_replaced step rest new other k e = absurd (none-some k e)
 
 -- a number at the head of a value is counted in it
 pub head_counted : (d : Datum) (k : ℕ) → head_serial d ≡ Some k → 1 ≤ in_value k d
-head_counted Gone k e = absurd (none-some k e)
-head_counted (Number number) k e = absurd (none-some k e)
-head_counted (Truth truth) k e = absurd (none-some k e)
-head_counted UnitValue k e = absurd (none-some k e)
-head_counted (Address address) k e = absurd (none-some k e)
-head_counted (Box serial impl_no inside) k e = absurd (none-some k e)
 head_counted (Aggregate variant serial parts) k e =
     let all = times_append k (option_to_list serial) (serials_of_all parts) in
     let own : times k (option_to_list serial) ≡ 1 = ap (λ o. times k (option_to_list o)) e ∙ times_one k in
     let is : in_value k (Aggregate variant serial parts) ≡ times k (option_to_list serial ++ serials_of_all parts) =
     refl in
     omega arith
+head_counted other k e = absurd (none-some k e)
 
 module _ (setting : Setting) where
   -- a number stands at the head of what stands there

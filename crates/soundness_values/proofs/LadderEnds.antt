@@ -153,17 +153,7 @@ module _ (setting : Setting) (size : ℕ → ℕ)
       (subst (λ c. (is_dyn (type_at items c) && is_impl_for items (type_at items c) (Some i)) ≡ true) (sym inside)
       (ap (λ b. b && is_impl_for items (type_at items content) (Some i)) (sym k.0) ∙ k.1))
   found_inside None content impl_no f e k x = absurd (none-some content e)
-  found_inside (Some (Ty.Int n)) content impl_no f e k x = absurd (none-some content e)
-  found_inside (Some Ty.Bool) content impl_no f e k x = absurd (none-some content e)
-  found_inside (Some Ty.Unit) content impl_no f e k x = absurd (none-some content e)
-  found_inside (Some Ty.Never) content impl_no f e k x = absurd (none-some content e)
-  found_inside (Some (Ty.Adt n)) content impl_no f e k x = absurd (none-some content e)
-  found_inside (Some (Ty.Tuple ts)) content impl_no f e k x = absurd (none-some content e)
-  found_inside (Some (Ty.Array t n)) content impl_no f e k x = absurd (none-some content e)
-  found_inside (Some (Ty.Dyn n)) content impl_no f e k x = absurd (none-some content e)
-  found_inside (Some (Ty.Shared t)) content impl_no f e k x = absurd (none-some content e)
-  found_inside (Some (Ty.Unique t)) content impl_no f e k x = absurd (none-some content e)
-  found_inside (Some (Ty.Closure n)) content impl_no f e k x = absurd (none-some content e)
+  found_inside (Some other) content impl_no f e k x = absurd (none-some content e)
 
   module _ (run : Bodies) (keeps : DropsKeep run) where
     -- what stands there still is what was found

@@ -87,17 +87,7 @@ module _ (items : ItemTable) (is_bounded : ℕ → ℕ → Bool) (is_variant : L
     one_variant (Ty.Adt n) variant h k =
         is_zero variant (subst (λ m. nat_lt variant m ≡ true)
         (same_number (length (variants_of (slice_get items.adts n))) 1 h) k)
-    one_variant (Ty.Int k) variant h e = absurd (false≢true h)
-    one_variant Ty.Bool variant h e = absurd (false≢true h)
-    one_variant Ty.Unit variant h e = absurd (false≢true h)
-    one_variant Ty.Never variant h e = absurd (false≢true h)
-    one_variant (Ty.Tuple ts) variant h e = absurd (false≢true h)
-    one_variant (Ty.Array t c) variant h e = absurd (false≢true h)
-    one_variant (Ty.Boxed t) variant h e = absurd (false≢true h)
-    one_variant (Ty.Dyn m) variant h e = absurd (false≢true h)
-    one_variant (Ty.Shared t) variant h e = absurd (false≢true h)
-    one_variant (Ty.Unique t) variant h e = absurd (false≢true h)
-    one_variant (Ty.Closure m) variant h e = absurd (false≢true h)
+    one_variant other variant h e = absurd (false≢true h)
 
     -- what follows a step to a part that is there
     abbrev Onward : List Step → List Step → Step → TyId → (Presence → Presence) → Presence → Type 0
@@ -234,17 +224,7 @@ module _ (items : ItemTable) (is_bounded : ℕ → ℕ → Bool) (is_variant : L
         false≢true (second_so (is_sure so_far (ToField v m) (Ty.Dyn n)) false e)
     no_step_in_dyn (Ty.Dyn n) so_far ToContent rest h e = false≢true e
     no_step_in_dyn (Ty.Dyn n) so_far (ToElement i) rest h e = false≢true e
-    no_step_in_dyn (Ty.Int x) so_far step rest h e = false≢true h
-    no_step_in_dyn Ty.Bool so_far step rest h e = false≢true h
-    no_step_in_dyn Ty.Unit so_far step rest h e = false≢true h
-    no_step_in_dyn Ty.Never so_far step rest h e = false≢true h
-    no_step_in_dyn (Ty.Adt x) so_far step rest h e = false≢true h
-    no_step_in_dyn (Ty.Tuple x) so_far step rest h e = false≢true h
-    no_step_in_dyn (Ty.Array x y) so_far step rest h e = false≢true h
-    no_step_in_dyn (Ty.Boxed x) so_far step rest h e = false≢true h
-    no_step_in_dyn (Ty.Shared x) so_far step rest h e = false≢true h
-    no_step_in_dyn (Ty.Unique x) so_far step rest h e = false≢true h
-    no_step_in_dyn (Ty.Closure x) so_far step rest h e = false≢true h
+    no_step_in_dyn other so_far step rest h e = false≢true h
 
     of_enum : (b : Bool) (o : Option TyId) (next : TyId) → unless_enum b o ≡ Some next →
         (b ≡ false) × (o ≡ Some next)
@@ -339,17 +319,7 @@ module _ (items : ItemTable) (is_bounded : ℕ → ℕ → Bool) (is_variant : L
         is_boxed : (ty : Ty) → is_sure so_far ToContent ty ≡ true → (next : TyId) →
             step_ty items ToContent ty ≡ Some next → ty ≡ Ty.Boxed next
         is_boxed (Ty.Boxed inside) h next e = let same : inside ≡ next = cc in ap Ty.Boxed same
-        is_boxed (Ty.Int x) h next e = absurd (false≢true h)
-        is_boxed Ty.Bool h next e = absurd (false≢true h)
-        is_boxed Ty.Unit h next e = absurd (false≢true h)
-        is_boxed Ty.Never h next e = absurd (false≢true h)
-        is_boxed (Ty.Adt x) h next e = absurd (false≢true h)
-        is_boxed (Ty.Tuple x) h next e = absurd (false≢true h)
-        is_boxed (Ty.Array x y) h next e = absurd (false≢true h)
-        is_boxed (Ty.Dyn x) h next e = absurd (false≢true h)
-        is_boxed (Ty.Shared x) h next e = absurd (false≢true h)
-        is_boxed (Ty.Unique x) h next e = absurd (false≢true h)
-        is_boxed (Ty.Closure x) h next e = absurd (false≢true h)
+        is_boxed other h next e = absurd (false≢true h)
     by_step so_far (ToElement i) steps id f p d stands k c ty is_ty at_ty sure next is_next s rest =
         by_array ty is_ty at_ty sure is_next
       where
@@ -388,17 +358,7 @@ module _ (items : ItemTable) (is_bounded : ℕ → ℕ → Bool) (is_variant : L
             inner (OfType next) false not_enum is_part is_found fit)
             (λ inner at fit. rest next (OfType next) is_present inner (as_itself items next) at fit
             (present_containers items steps is_present refl) s)
-        by_array (Ty.Int x) is_ty at_ty h e = absurd (false≢true h)
-        by_array Ty.Bool is_ty at_ty h e = absurd (false≢true h)
-        by_array Ty.Unit is_ty at_ty h e = absurd (false≢true h)
-        by_array Ty.Never is_ty at_ty h e = absurd (false≢true h)
-        by_array (Ty.Adt x) is_ty at_ty h e = absurd (false≢true h)
-        by_array (Ty.Tuple x) is_ty at_ty h e = absurd (false≢true h)
-        by_array (Ty.Boxed x) is_ty at_ty h e = absurd (false≢true h)
-        by_array (Ty.Dyn x) is_ty at_ty h e = absurd (false≢true h)
-        by_array (Ty.Shared x) is_ty at_ty h e = absurd (false≢true h)
-        by_array (Ty.Unique x) is_ty at_ty h e = absurd (false≢true h)
-        by_array (Ty.Closure x) is_ty at_ty h e = absurd (false≢true h)
+        by_array other is_ty at_ty h e = absurd (false≢true h)
 
     by_ty : (so_far : List Step) (step : Step) (steps : List Step) (id : TyId) (f : DynamicType) (p : Presence)
         (d : Datum) → value_at (path_at cells so_far) root ≡ Some d → Fits items f p d →

@@ -117,14 +117,4 @@ main_head p typed =
     unit_is : (o : Option Ty) → option_map_or is_unit_ty o false ≡ true → o ≡ Some Ty.Unit
     unit_is None h = absurd (false≢true h)
     unit_is (Some Ty.Unit) h = refl
-    unit_is (Some (Ty.Int kind)) h = absurd (false≢true h)
-    unit_is (Some Ty.Bool) h = absurd (false≢true h)
-    unit_is (Some Ty.Never) h = absurd (false≢true h)
-    unit_is (Some (Ty.Adt n)) h = absurd (false≢true h)
-    unit_is (Some (Ty.Tuple parts)) h = absurd (false≢true h)
-    unit_is (Some (Ty.Array element count)) h = absurd (false≢true h)
-    unit_is (Some (Ty.Boxed content)) h = absurd (false≢true h)
-    unit_is (Some (Ty.Dyn n)) h = absurd (false≢true h)
-    unit_is (Some (Ty.Shared to)) h = absurd (false≢true h)
-    unit_is (Some (Ty.Unique to)) h = absurd (false≢true h)
-    unit_is (Some (Ty.Closure n)) h = absurd (false≢true h)
+    unit_is (Some other) h = absurd (false≢true h)

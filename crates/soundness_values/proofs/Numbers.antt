@@ -1,10 +1,8 @@
 -- Checked operators and asked numbers of a checked run follow those of a free run: they take the choice 0 where they
 -- give a number, and 1 where they panic.
-use Rattle.std.proofs.Common.{◌≡◌, ℕ, suc, pos, ℤ, ◌==◌, ◌&&◌, not, Bool, true, false, List, [], ◌∷◌, Option, Some, None, refl, ap, sym, ◌∙◌, subst}
-use Rattle.std.specs.Prelude.{slice_get, option_and_then, neg_ℤ}
-use Rattle.std.specs.Option.{option_map_or}
+use Rattle.std.proofs.Common.{◌≡◌, ℕ, ℤ, ◌&&◌, Bool, true, false, List, [], ◌∷◌, Option, Some, None, refl, ap, sym, ◌∙◌, subst}
+use Rattle.std.specs.Prelude.{option_and_then, neg_ℤ}
 use Rattle.std.proofs.lemmas.Bool.{false≢true}
-use Rattle.std.proofs.lemmas.Option.{none-some}
 use Rattle.mir_base.specs.declared.int_kind.IntKind.{IntKind}
 use Rattle.mir_base.specs.declared.operator.Math.{Math}
 use Rattle.mir_base.specs.declared.trace.Event.{Event}
@@ -14,30 +12,28 @@ use Rattle.mir_ty.specs.declared.ty.TyId.{TyId}
 use Rattle.mir_ty.specs.ItemTable.{ItemTable, type_at}
 use Rattle.store_model.proofs.Effects.Following.{Relation}
 use Rattle.store_model.specs.declared.address.Addr.{Addr}
-use Rattle.store_model.specs.Values.Datum.{Datum, Number}
+use Rattle.store_model.specs.Values.Datum.{Number}
 use Rattle.store_model.specs.Effects as effects
-use Rattle.store_model.specs.Effects.{EffectSite, Operand, Stuck, Unreachable, Out, Go, Unwind, halting_if}
+use Rattle.store_model.specs.Effects.{EffectSite, Operand, Stuck, Unreachable, halting_if}
 use Rattle.store_model.specs.Abstract.Effects as free
 use Rattle.store_model.specs.Abstract.Effects.{AbstractState}
-use Rattle.store_model.specs.Abstract.Presence.{Presence, is_present}
-use Rattle.store_model.specs.Places.Place.{Place, place_ty}
-use Rattle.store_model.specs.Places.TypeForms.{is_never, is_int, int_kind, same_int, is_signed}
+use Rattle.store_model.specs.Abstract.Presence.{Presence}
+use Rattle.store_model.specs.Places.Place.{place_ty}
+use Rattle.store_model.specs.Places.TypeForms.{is_never, is_int, int_kind, same_int}
 use Rattle.store_model.specs.Concrete.Effects as values
-use Rattle.store_model.specs.Concrete.Effects.{Computed, Gives, PanicsBy, computed, if_within, act}
-use Rattle.store_model.specs.Concrete.Location.{Setting, OfType}
-use Rattle.store_model.specs.Concrete.State.{State, Bodies, with_event}
-use Rattle.soundness_values.proofs.Doing.{FollowsOut, goes_on, unwinds, out_after}
-use Rattle.soundness_values.specs.Typed.{number_fits}
-use Rattle.soundness_values.proofs.Fits.{Fits}
+use Rattle.store_model.specs.Concrete.Effects.{Computed, computed, if_within, act}
+use Rattle.store_model.specs.Concrete.Location.{Setting}
+use Rattle.store_model.specs.Concrete.State.{State, Bodies}
+use Rattle.soundness_values.proofs.Doing.{FollowsOut, unwinds, out_after}
 use Rattle.soundness_values.proofs.Facts.{Facts, without}
 use Rattle.soundness_values.proofs.Dropped.{feeding}
 use Rattle.soundness_values.proofs.Known.{Target}
 use Rattle.soundness_values.proofs.Running.{sure_place, Passed, Runs}
 use Rattle.soundness_values.proofs.Changing.{runs_alike, runs_without}
-use Rattle.soundness_values.proofs.Checks.{id_of, ty_of, form_of, is_value, may_change, may_store, stores_as, takes_well, after_operand, acts_well}
+use Rattle.soundness_values.proofs.Checks.{ty_of, form_of, is_value, may_change, may_store, stores_as, takes_well, after_operand, acts_well}
 use Rattle.soundness_values.proofs.Standings.{alike_itself}
 use Rattle.soundness_values.proofs.Taking.{first, second, rel, operand_follows}
-use Rattle.soundness_values.proofs.Acting.{int_is, operand_number, number_value, value_form, concrete_ty_is, one_stores, two_stores}
+use Rattle.soundness_values.proofs.Acting.{int_is, operand_number, number_value, value_form, concrete_ty_is, two_stores}
 use Rattle.soundness_values.proofs.Actions.{follows_told, Stores, stores_well, FormedAt, formed_at, puts}
 use Rattle.soundness_values.proofs.Reckoning.{Reckoned, gives, panics, reckoned, reckoned_within}
 
@@ -69,17 +65,7 @@ module _ (setting : Setting) (number : ℕ) (targets : List Target) (uniques : L
       (kind : IntKind) × ((o ≡ Some (Ty.Int kind)) × (is_int kind t ≡ true))
   int_form (Some (Ty.Int kind)) t h = (kind, (refl, h))
   int_form None t h = absurd (false≢true h)
-  int_form (Some Ty.Bool) t h = absurd (false≢true h)
-  int_form (Some Ty.Unit) t h = absurd (false≢true h)
-  int_form (Some Ty.Never) t h = absurd (false≢true h)
-  int_form (Some (Ty.Adt n)) t h = absurd (false≢true h)
-  int_form (Some (Ty.Tuple ts)) t h = absurd (false≢true h)
-  int_form (Some (Ty.Array e n)) t h = absurd (false≢true h)
-  int_form (Some (Ty.Boxed e)) t h = absurd (false≢true h)
-  int_form (Some (Ty.Dyn n)) t h = absurd (false≢true h)
-  int_form (Some (Ty.Shared e)) t h = absurd (false≢true h)
-  int_form (Some (Ty.Unique e)) t h = absurd (false≢true h)
-  int_form (Some (Ty.Closure n)) t h = absurd (false≢true h)
+  int_form (Some other) t h = absurd (false≢true h)
 
   same_kind_of : (kind other : IntKind) (o : Option Ty) → o ≡ Some (Ty.Int kind) → is_int other o ≡ true →
       kind ≡ other

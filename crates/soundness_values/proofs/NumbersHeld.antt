@@ -8,7 +8,7 @@ use Rattle.mir_ty.specs.declared.ty.TyId.{TyId}
 use Rattle.mir_ty.specs.Facts.{needs_drop}
 use Rattle.mir_ty.specs.ItemTable.{ItemTable}
 use Rattle.store_model.specs.declared.address.Addr.{Addr}
-use Rattle.store_model.specs.Values.Datum.{Datum, Gone, Number, Truth, UnitValue, Aggregate, Box, Address}
+use Rattle.store_model.specs.Values.Datum.{Datum, Gone}
 use Rattle.store_model.specs.Values.Wholeness.{serials}
 use Rattle.store_model.specs.Abstract.Presence.{Presence, itself_gone}
 use Rattle.store_model.specs.Concrete.Location.{Setting, DynamicType, OfType, Located, located_at}
@@ -94,12 +94,7 @@ module _ (items : ItemTable) where
   pub gone_fits : (d : Datum) (found : DynamicType) (p : Presence) → itself_gone p ≡ true → Fits items found p d →
       d ≡ Gone
   gone_fits Gone found p e k = refl
-  gone_fits (Number number) found p e k = absurd (false≢true (sym k.0 ∙ e))
-  gone_fits (Truth truth) found p e k = absurd (false≢true (sym k.0 ∙ e))
-  gone_fits UnitValue found p e k = absurd (false≢true (sym k.0 ∙ e))
-  gone_fits (Aggregate variant serial parts) found p e k = absurd (false≢true (sym k.0 ∙ e))
-  gone_fits (Box serial impl_no inside) found p e k = absurd (false≢true (sym k.0 ∙ e))
-  gone_fits (Address address) found p e k = absurd (false≢true (sym k.0 ∙ e))
+  gone_fits other found p e k = absurd (false≢true (sym k.0 ∙ e))
 
   pub empty_of : (k : ℕ) (d : Datum) (id : TyId) (p : Presence) →
       (itself_gone p ≡ true) ⊎ (needs_drop items id ≡ false) → Fits items (OfType id) p d → in_value k d ≡ 0

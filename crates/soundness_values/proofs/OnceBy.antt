@@ -8,7 +8,7 @@ use Rattle.mir_base.specs.Once.{times, no_line}
 use Rattle.mir_ty.specs.declared.def.Sig.{Sig}
 use Rattle.mir_ty.specs.declared.ty.TyId.{TyId}
 use Rattle.mir_ty.specs.ItemTable.{ItemTable}
-use Rattle.store_model.specs.Effects.{Halt, Aborted, OutOfTicks, Stuck, StuckAt, BadUse, BadStore, NoChoice, Infeasible, Unreachable}
+use Rattle.store_model.specs.Effects.{Halt, Aborted, OutOfTicks}
 use Rattle.store_model.specs.Places.Place.{Place}
 use Rattle.store_model.specs.Values.Datum.{Datum}
 use Rattle.store_model.specs.Concrete.Bodies.{outcome_of, end_of_halt, run_body, main_of}
@@ -24,7 +24,7 @@ use Rattle.soundness_values.proofs.AlsoTests.{Also}
 use Rattle.soundness_values.proofs.Bodies.{Keep}
 use Rattle.soundness_values.proofs.BodyHeads.{size, sized}
 use Rattle.soundness_values.proofs.Contracts as contracts
-use Rattle.soundness_values.proofs.Contracts.{targets_of, uniques_of, MayRun, Leaves, LeftSo}
+use Rattle.soundness_values.proofs.Contracts.{targets_of, MayRun, Leaves, LeftSo}
 use Rattle.soundness_values.proofs.CountedContract as counts
 use Rattle.soundness_values.proofs.CountedContract.{Before, Ended}
 use Rattle.soundness_values.proofs.CountedFollow.{CallsCount, all_follow}
@@ -141,13 +141,7 @@ module _ (p : ProgramTree) (protects : ℕ → ℕ → Bool) (also : ℕ → Als
         by : (halt : Halt) → MayEnd halt → EndsSo v.trace (end_of_halt halt)
         by Aborted m = once
         by OutOfTicks m = once
-        by Stuck m = absurd m
-        by (StuckAt x y) m = absurd m
-        by (BadUse site) m = absurd m
-        by (BadStore site) m = absurd m
-        by NoChoice m = absurd m
-        by Infeasible m = absurd m
-        by Unreachable m = absurd m
+        by other m = absurd m
 
     pub ends_once : EndsSo (source p asked ticks).0 (source p asked ticks).1
     ends_once =

@@ -10,10 +10,10 @@ use Rattle.mir_ty.specs.declared.ty.Ty.{Ty}
 use Rattle.store_model.specs.Places.TypeForms.{int_kind}
 use Rattle.store_model.specs.Values.Datum.{Datum, Gone, Number, Truth, UnitValue, Aggregate, Box, Address, data_from}
 use Rattle.store_model.specs.Effects as effects
-use Rattle.store_model.specs.Effects.{EffectSite, Operand, AggregateKind, OfTuple, OfArray, OfVariant, OfClosure, Action, Test, Halt, Aborted, OutOfTicks, Stuck, StuckAt, BadUse, BadStore, NoChoice, Infeasible, Unreachable, Out, Go, Unwind, Halts, Choice, Yes, No, Neither, halting_if}
+use Rattle.store_model.specs.Effects.{EffectSite, Operand, AggregateKind, OfTuple, OfArray, OfVariant, OfClosure, Action, Test, Halt, Aborted, OutOfTicks, Stuck, Out, Go, Unwind, Halts, Choice, Yes, No, Neither, halting_if}
 use Rattle.store_model.specs.Concrete.Drops.{drop_impl}
 use Rattle.store_model.specs.Concrete.Effects as values
-use Rattle.store_model.specs.Concrete.Effects.{act, or_stuck, evaluate_operand, with_operand, with_two_operands, with_operands, put, put_if, tell_after, made, whole_at}
+use Rattle.store_model.specs.Concrete.Effects.{act, or_stuck, evaluate_operand, with_operand, put, put_if, tell_after, made, whole_at}
 use Rattle.store_model.specs.Concrete.Location.{Setting, Located, Reached, Reaches, CutOff, Nowhere, reach, on_reached, stored_at}
 use Rattle.store_model.specs.Concrete.State.{State, Bodies, numbered_next}
 use Rattle.soundness_values.proofs.Taking.{MayLapse}
@@ -30,13 +30,7 @@ no_lapse o halt v h e m = by halt m (subst HaltsStuck e h)
     by : (halt : Halt) → MayLapse halt v → HaltsStuck (Halts halt v) → ⊥
     by Aborted m k = k
     by OutOfTicks m k = k
-    by Stuck m k = m
-    by (StuckAt b c) m k = m
-    by (BadUse at) m k = m
-    by (BadStore at) m k = m
-    by NoChoice m k = m
-    by Infeasible m k = m
-    by Unreachable m k = m
+    by other m k = m
 
 pub stuck_if : (b : Bool) (o : Out State) → HaltsStuck o → HaltsStuck (halting_if b Stuck o)
 stuck_if true (Go w) h = tt
@@ -85,38 +79,18 @@ module _ (setting : Setting) where
       HaltsStuck (values.compute setting to operator kind a b w)
   compute_so to operator (Some kind) (Number x) (Number y) w = computed_so to (values.computed operator kind x y) w
   compute_so to operator None a b w = tt
-  compute_so to operator (Some kind) Gone b w = tt
-  compute_so to operator (Some kind) (Truth x) b w = tt
-  compute_so to operator (Some kind) UnitValue b w = tt
-  compute_so to operator (Some kind) (Aggregate v s p) b w = tt
-  compute_so to operator (Some kind) (Box s i d) b w = tt
-  compute_so to operator (Some kind) (Address x) b w = tt
-  compute_so to operator (Some kind) (Number x) Gone w = tt
-  compute_so to operator (Some kind) (Number x) (Truth y) w = tt
-  compute_so to operator (Some kind) (Number x) UnitValue w = tt
-  compute_so to operator (Some kind) (Number x) (Aggregate v s p) w = tt
-  compute_so to operator (Some kind) (Number x) (Box s i d) w = tt
-  compute_so to operator (Some kind) (Number x) (Address y) w = tt
+  compute_so to operator (Some kind) (Number x) other w = tt
+  compute_so to operator (Some kind) other b w = tt
 
   negate_so : (to : EffectSite) (kind : Option IntKind) (d : Datum) (w : State) →
       HaltsStuck (values.negate setting to kind d w)
   negate_so to None d w = tt
   negate_so to (Some kind) (Number n) w = computed_so to (values.if_within kind (neg_ℤ n)) w
-  negate_so to (Some kind) Gone w = tt
-  negate_so to (Some kind) (Truth x) w = tt
-  negate_so to (Some kind) UnitValue w = tt
-  negate_so to (Some kind) (Aggregate v s p) w = tt
-  negate_so to (Some kind) (Box s i d) w = tt
-  negate_so to (Some kind) (Address x) w = tt
+  negate_so to (Some kind) other w = tt
 
   printed_so : (d : Datum) (w : State) → HaltsStuck (values.printed setting d w)
   printed_so (Number n) w = tt
-  printed_so Gone w = tt
-  printed_so (Truth x) w = tt
-  printed_so UnitValue w = tt
-  printed_so (Aggregate v s p) w = tt
-  printed_so (Box s i d) w = tt
-  printed_so (Address x) w = tt
+  printed_so other w = tt
 
   bounded_so : (count : ℕ) (d : Datum) (w : State) → HaltsStuck (values.bounded setting count d w)
   bounded_so count (Number n) w = by (int_lt n (pos count))
@@ -124,12 +98,7 @@ module _ (setting : Setting) where
       by : (b : Bool) → HaltsStuck (values.within_bounds setting b w)
       by true = tt
       by false = tt
-  bounded_so count Gone w = tt
-  bounded_so count (Truth x) w = tt
-  bounded_so count UnitValue w = tt
-  bounded_so count (Aggregate v s p) w = tt
-  bounded_so count (Box s i d) w = tt
-  bounded_so count (Address x) w = tt
+  bounded_so count other w = tt
 
   built_so : (to : EffectSite) (kind : AggregateKind) (ds : List Datum) (w : State) →
       HaltsStuck (values.built setting to kind ds w)
@@ -201,13 +170,7 @@ module _ (setting : Setting) where
       by : (halt : Halt) → MayLapse halt v → HaltsStuckChoice (Neither halt v) → ⊥
       by Aborted m k = k
       by OutOfTicks m k = k
-      by Stuck m k = m
-      by (StuckAt b c) m k = m
-      by (BadUse at) m k = m
-      by (BadStore at) m k = m
-      by NoChoice m k = m
-      by Infeasible m k = m
-      by Unreachable m k = m
+      by other m k = m
 
   pub choice_stuck : (test : Test) (w : State) → HaltsStuckChoice (values.choose setting test w)
   choice_stuck (effects.IsTrue operand) w = by (evaluate_operand setting operand w)
@@ -230,12 +193,7 @@ module _ (setting : Setting) where
 
       tested : (d : Datum) → HaltsStuckChoice (values.variant_tested setting variant d w)
       tested (Aggregate active s p) = by_if _
-      tested Gone = tt
-      tested (Number n) = tt
-      tested (Truth x) = tt
-      tested UnitValue = tt
-      tested (Box s i d) = tt
-      tested (Address a) = tt
+      tested other = tt
 
       by : (r : Reached) → HaltsStuckChoice (on_reached r (λ (s : Located). values.variant_tested setting variant s.value w)
           (Neither Stuck w) (Neither Stuck w))

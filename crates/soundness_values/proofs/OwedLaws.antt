@@ -7,7 +7,7 @@ use Rattle.mir_base.specs.declared.trace.Event.{Event}
 use Rattle.mir_ty.specs.declared.def.Sig.{Sig}
 use Rattle.mir_ty.specs.declared.ty.TyId.{TyId}
 use Rattle.store_model.specs.Values.Datum.{Datum}
-use Rattle.store_model.specs.Effects.{Halt, Aborted, OutOfTicks, Stuck, StuckAt, BadUse, BadStore, NoChoice, Infeasible, Unreachable}
+use Rattle.store_model.specs.Effects.{Halt, Aborted, OutOfTicks, Stuck}
 use Rattle.store_model.specs.Concrete.Bodies.{outcome_of, end_of_halt, run_body, main_of}
 use Rattle.store_model.specs.Concrete.State.{State, Answer, beginning}
 use Rattle.src_meaning.specs.Programs.{source, setting_of, code_of}
@@ -55,13 +55,7 @@ module _ (p : ProgramTree) (Extra : Event → ℕ → List Datum → State → A
       by : (halt : Halt) → MayEnd halt → end_of_halt halt ≡ End.Stuck body block → ⊥
       by Aborted h e = absurd (let never : ⊥ = cc in never)
       by OutOfTicks h e = absurd (let never : ⊥ = cc in never)
-      by Stuck h e = h
-      by (StuckAt b c) h e = h
-      by (BadUse site) h e = h
-      by (BadStore site) h e = h
-      by NoChoice h e = h
-      by Infeasible h e = h
-      by Unreachable h e = h
+      by other h e = h
 
   module _ (asked : List ℤ) (ticks : ℕ) where
     abbrev main : Main p

@@ -12,7 +12,7 @@ use Rattle.mir_ty.specs.ItemTable.{ItemTable}
 use Rattle.store_model.proofs.Effects.Following.{FollowsEffects}
 use Rattle.store_model.specs.declared.address.Addr.{Addr}
 use Rattle.store_model.specs.Values.Datum.{Datum}
-use Rattle.store_model.specs.Effects.{Halt, Aborted, OutOfTicks, Stuck, StuckAt, BadUse, BadStore, NoChoice, Infeasible, Unreachable, Out, Effects}
+use Rattle.store_model.specs.Effects.{Halt, Aborted, OutOfTicks, Out, Effects}
 use Rattle.store_model.specs.Abstract.Effects.{presence, params_present, abstract_effects}
 use Rattle.store_model.specs.Abstract.Presence.{Presence, all_present}
 use Rattle.store_model.specs.Concrete.Bodies.{cells_of_youngest}
@@ -212,24 +212,12 @@ module _ (p : ProgramTree) where
       may_end : (ended : State → Type 0) (halt : Halt) (v : State) → Lapses ended halt v → MayEnd halt
       may_end ended Aborted v h = tt
       may_end ended OutOfTicks v h = tt
-      may_end ended Stuck v h = h
-      may_end ended (StuckAt b c) v h = h
-      may_end ended (BadUse at) v h = h
-      may_end ended (BadStore at) v h = h
-      may_end ended NoChoice v h = h
-      may_end ended Infeasible v h = h
-      may_end ended Unreachable v h = h
+      may_end ended other v h = h
 
       as_may_end : (halt : Halt) → never_stuck.MayEnd halt → MayEnd halt
       as_may_end Aborted h = tt
       as_may_end OutOfTicks h = tt
-      as_may_end Stuck h = h
-      as_may_end (StuckAt b c) h = h
-      as_may_end (BadUse at) h = h
-      as_may_end (BadStore at) h = h
-      as_may_end NoChoice h = h
-      as_may_end Infeasible h = h
-      as_may_end Unreachable h = h
+      as_may_end other h = h
 
       -- the checked run, by the types of its locals
       abbrev pub checked_by : (n : ℕ) → BodyTree → (ℕ → Option TyId) → Effects (Checking Facts)

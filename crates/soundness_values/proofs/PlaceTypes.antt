@@ -11,7 +11,7 @@ use Rattle.mir_ty.specs.declared.ty.TyId.{TyId}
 use Rattle.mir_ty.specs.ItemTable.{ItemTable, type_at}
 use Rattle.mir_ty.specs.Parts.{parts_of, field_ty}
 use Rattle.store_model.specs.Places.Place as places
-use Rattle.store_model.specs.Places.Place.{Step, ToPart, ToContent, ToElement, Place, whole_local, step_ty, ty_along, place_ty, unless_enum, content_of, element_of}
+use Rattle.store_model.specs.Places.Place.{Step, ToPart, ToContent, ToElement, Place, whole_local, step_ty, ty_along, place_ty, unless_enum}
 use Rattle.typed_tree.specs.Tree as tree
 use Rattle.typed_tree.specs.Tree.{Node, node, Form}
 use Rattle.typed_tree.specs.Nodes.{number_of}
@@ -75,16 +75,7 @@ module _ (items : ItemTable) where
           unless_enum (places.is_enum items ty) (slice_get (parts_of items ty 0) part) ≡ Some t
       by_ty (Ty.Adt n) h e = no_enum (is_enum items n) _ t h e
       by_ty (Ty.Tuple parts) h e = e
-      by_ty (Ty.Int kind) h e = absurd (false≢true h)
-      by_ty Ty.Bool h e = absurd (false≢true h)
-      by_ty Ty.Unit h e = absurd (false≢true h)
-      by_ty Ty.Never h e = absurd (false≢true h)
-      by_ty (Ty.Array x n) h e = absurd (false≢true h)
-      by_ty (Ty.Boxed x) h e = absurd (false≢true h)
-      by_ty (Ty.Dyn n) h e = absurd (false≢true h)
-      by_ty (Ty.Shared x) h e = absurd (false≢true h)
-      by_ty (Ty.Unique x) h e = absurd (false≢true h)
-      by_ty (Ty.Closure n) h e = absurd (false≢true h)
+      by_ty other h e = absurd (false≢true h)
 
       by : (o : Option Ty) → option_map_or (fields_in items) o false ≡ true →
           option_and_then (λ ty. slice_get (parts_of items ty 0) part) o ≡ Some t →
@@ -100,17 +91,7 @@ module _ (items : ItemTable) where
           ≡ Some a.0
       by None e = absurd (none-some a e)
       by (Some (Ty.Array x n)) e = let same : (x, n) ≡ a = cc in ap (λ (p : TyId × ℕ). Some p.0) same
-      by (Some (Ty.Adt n)) e = absurd (none-some a e)
-      by (Some (Ty.Tuple parts)) e = absurd (none-some a e)
-      by (Some (Ty.Int kind)) e = absurd (none-some a e)
-      by (Some Ty.Bool) e = absurd (none-some a e)
-      by (Some Ty.Unit) e = absurd (none-some a e)
-      by (Some Ty.Never) e = absurd (none-some a e)
-      by (Some (Ty.Boxed x)) e = absurd (none-some a e)
-      by (Some (Ty.Dyn n)) e = absurd (none-some a e)
-      by (Some (Ty.Shared x)) e = absurd (none-some a e)
-      by (Some (Ty.Unique x)) e = absurd (none-some a e)
-      by (Some (Ty.Closure n)) e = absurd (none-some a e)
+      by (Some other) e = absurd (none-some a e)
 
   pub content_step : (base t : TyId) → inside_of items base ≡ Some t → option_and_then (step_ty items ToContent)
       (type_at items base) ≡ Some t
@@ -122,15 +103,7 @@ module _ (items : ItemTable) where
       by (Some (Ty.Boxed x)) e = e
       by (Some (Ty.Shared x)) e = e
       by (Some (Ty.Unique x)) e = e
-      by (Some (Ty.Array x n)) e = absurd (none-some t e)
-      by (Some (Ty.Adt n)) e = absurd (none-some t e)
-      by (Some (Ty.Tuple parts)) e = absurd (none-some t e)
-      by (Some (Ty.Int kind)) e = absurd (none-some t e)
-      by (Some Ty.Bool) e = absurd (none-some t e)
-      by (Some Ty.Unit) e = absurd (none-some t e)
-      by (Some Ty.Never) e = absurd (none-some t e)
-      by (Some (Ty.Dyn n)) e = absurd (none-some t e)
-      by (Some (Ty.Closure n)) e = absurd (none-some t e)
+      by (Some other) e = absurd (none-some t e)
 
 -- what stands around a node: its entries have the types of their cells, or of the parts for which they stand in a
 -- guard; so has the value of a closure, which is no enum
@@ -200,51 +173,4 @@ module _ (c : Context) (local_ty : ℕ → Option TyId) (aliases : Aliases) (pla
         extended_ty c.items local_ty ((shape c.items base).place aliases) ToContent (ty_of base) y.0
         (place_node base Base h.0 t) (content_step c.items (ty_of base) y.0 y.1.0)
         ∙ ap Some (sym (same_type ty y.0 y.1.1))
-    place_form (tree.Number value) id ty by h t = at_home id ty t
-    place_form (tree.Truth value) id ty by h t = at_home id ty t
-    place_form tree.UnitValue id ty by h t = at_home id ty t
-    place_form (tree.Not operand) id ty by h t = at_home id ty t
-    place_form (tree.Negate operand) id ty by h t = at_home id ty t
-    place_form (tree.Arithmetic operator left right) id ty by h t = at_home id ty t
-    place_form (tree.Comparison operator left right) id ty by h t = at_home id ty t
-    place_form (tree.And left right) id ty by h t = at_home id ty t
-    place_form (tree.Or left right) id ty by h t = at_home id ty t
-    place_form (tree.Assign place value) id ty by h t = at_home id ty t
-    place_form (tree.Call body args) id ty by h t = at_home id ty t
-    place_form (tree.MethodCall body receiver args) id ty by h t = at_home id ty t
-    place_form (tree.VirtualCall trait_no method receiver args) id ty by h t = at_home id ty t
-    place_form (tree.ClosureCall body callee args) id ty by h t = at_home id ty t
-    place_form (tree.Make adt variant fields) id ty by h t = at_home id ty t
-    place_form (tree.Tuple parts) id ty by h t = at_home id ty t
-    place_form (tree.Array elements) id ty by h t = at_home id ty t
-    place_form (tree.Closure closure captures) id ty by h t = at_home id ty t
-    place_form (tree.NewBox content) id ty by h t = at_home id ty t
-    place_form (tree.Print operand) id ty by h t = at_home id ty t
-    place_form tree.Ask id ty by h t = at_home id ty t
-    place_form (tree.DropValue operand) id ty by h t = at_home id ty t
-    place_form (tree.Forget operand) id ty by h t = at_home id ty t
-    place_form tree.Panic id ty by h t = at_home id ty t
-    place_form (tree.Borrow unique base) id ty by h t = at_home id ty t
-    place_form (tree.Unsize trait_no operand) id ty by h t = at_home id ty t
-    place_form (tree.Block statements tail) id ty by h t = at_home id ty t
-    place_form (tree.Let pattern initialiser) id ty by h t = at_home id ty t
-    place_form (tree.Evaluate expression) id ty by h t = at_home id ty t
-    place_form (tree.If condition body otherwise) id ty by h t = at_home id ty t
-    place_form (tree.IfLet pattern scrutinee body otherwise) id ty by h t = at_home id ty t
-    place_form (tree.Match scrutinee arms) id ty by h t = at_home id ty t
-    place_form (tree.Arm pattern guard body) id ty by h t = at_home id ty t
-    place_form (tree.Loop body) id ty by h t = at_home id ty t
-    place_form (tree.While condition body) id ty by h t = at_home id ty t
-    place_form (tree.WhileLet pattern scrutinee body) id ty by h t = at_home id ty t
-    place_form (tree.Break loop value) id ty by h t = at_home id ty t
-    place_form (tree.Continue loop) id ty by h t = at_home id ty t
-    place_form (tree.Return value) id ty by h t = at_home id ty t
-    place_form tree.Wildcard id ty by h t = at_home id ty t
-    place_form (tree.Binding name) id ty by h t = at_home id ty t
-    place_form (tree.NumberPattern value) id ty by h t = at_home id ty t
-    place_form (tree.TruthPattern value) id ty by h t = at_home id ty t
-    place_form (tree.StructPattern fields) id ty by h t = at_home id ty t
-    place_form (tree.VariantPattern variant is_test fields) id ty by h t = at_home id ty t
-    place_form (tree.TuplePattern parts) id ty by h t = at_home id ty t
-    place_form (tree.ArrayPattern elements) id ty by h t = at_home id ty t
-    place_form (tree.OrPattern alternatives) id ty by h t = at_home id ty t
+    place_form other id ty by h t = at_home id ty t

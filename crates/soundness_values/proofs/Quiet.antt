@@ -1,6 +1,6 @@
 -- A value of a type that needs no dropping holds no serial number, and where it is dropped no `Drop` body runs, so it
 -- never panics.
-use Rattle.std.proofs.Common.{◌≡◌, ◌⊎◌, inl, inr, ℕ, zero, suc, ◌+◌, ◌==◌, ◌&&◌, Bool, true, false, List, [], ◌∷◌, ◌++◌, Option, Some, None, is_some, refl, ap, sym, ◌∙◌, subst, arith}
+use Rattle.std.proofs.Common.{◌≡◌, ◌⊎◌, inl, inr, ℕ, zero, suc, ◌+◌, ◌==◌, Bool, true, false, [], ◌++◌, Option, Some, None, is_some, refl, ap, sym, ◌∙◌, subst, arith}
 use Rattle.std.specs.Prelude.{slice_get, option_and_then}
 use Rattle.std.specs.Option.{option_map_or}
 use Rattle.std.proofs.lemmas.Bool.{false≢true}
@@ -10,21 +10,21 @@ use Rattle.mir_ty.proofs.LeastRelations.{needs_drop_from, needs_drop-rules}
 use Rattle.mir_ty.specs.declared.adt.Adt.{Adt}
 use Rattle.mir_ty.specs.declared.ty.Ty.{Ty}
 use Rattle.mir_ty.specs.declared.ty.TyId.{TyId}
-use Rattle.mir_ty.specs.Facts.{needs_drop, has_drop_impl, adt_has_drop_impl, ty_has_drop_impl, NeedsDrop, a_box, a_dyn, an_impl, a_part}
+use Rattle.mir_ty.specs.Facts.{needs_drop, has_drop_impl, adt_has_drop_impl, ty_has_drop_impl, NeedsDrop, a_box, an_impl, a_part}
 use Rattle.mir_ty.specs.ItemTable.{ItemTable, type_at}
 use Rattle.mir_ty.specs.Parts.{parts_of}
-use Rattle.store_model.specs.declared.address.At.TheVariants.{Part, Inside}
+use Rattle.store_model.specs.declared.address.At.TheVariants.{Part}
 use Rattle.store_model.specs.Values.Datum as data_of
 use Rattle.store_model.specs.Values.Datum.{Datum, Data, Gone, Number, Truth, UnitValue, Aggregate, Box, Address, no_part}
 use Rattle.store_model.specs.Values.Access.{part, part_at}
 use Rattle.store_model.specs.Values.Wholeness.{serials, serials_of_all}
-use Rattle.store_model.specs.Abstract.Presence.{Presence, presence_at}
+use Rattle.store_model.specs.Abstract.Presence.{Presence}
 use Rattle.store_model.specs.Places.TypeForms.{box_content}
-use Rattle.store_model.specs.Effects.{Mode, Stuck, OutOfTicks, Out, Go, Unwind, Halts}
+use Rattle.store_model.specs.Effects.{Mode, Stuck, OutOfTicks, Out, Go, Halts}
 use Rattle.store_model.specs.Concrete.Location.{Setting, DynamicType, OfType, concrete_ty, type_of_part, type_of_field, Located, located_at, into, located_part, below, stored_at}
 use Rattle.store_model.specs.Concrete.State.{State, Bodies}
-use Rattle.store_model.specs.Concrete.Drops.{drop_impl, with_drop_body, if_still_typed, same_if, still_of, Stage, Begins, unwinding_out, in_mode, gone_at, as_read, if_part, with_body, own_body, drop_value, drop_parts, drop_at, still}
-use Rattle.soundness_values.proofs.Fits.{Fits, PartsFit, part_step}
+use Rattle.store_model.specs.Concrete.Drops.{drop_impl, with_drop_body, if_still_typed, same_if, still_of, Stage, Begins, in_mode, gone_at, as_read, if_part, with_body, own_body, drop_value, drop_parts, drop_at}
+use Rattle.soundness_values.proofs.Fits.{Fits, PartsFit}
 
 module _ (items : ItemTable) where
   abbrev mutual
@@ -60,17 +60,7 @@ module _ (items : ItemTable) where
       NeedsDrop items id
   boxed id content None h c = absurd (none-some content c)
   boxed id content (Some (Ty.Boxed t)) h c = a_box h
-  boxed id content (Some (Ty.Int kind)) h c = absurd (none-some content c)
-  boxed id content (Some Ty.Bool) h c = absurd (none-some content c)
-  boxed id content (Some Ty.Unit) h c = absurd (none-some content c)
-  boxed id content (Some Ty.Never) h c = absurd (none-some content c)
-  boxed id content (Some (Ty.Adt n)) h c = absurd (none-some content c)
-  boxed id content (Some (Ty.Tuple ts)) h c = absurd (none-some content c)
-  boxed id content (Some (Ty.Array t n)) h c = absurd (none-some content c)
-  boxed id content (Some (Ty.Dyn n)) h c = absurd (none-some content c)
-  boxed id content (Some (Ty.Shared t)) h c = absurd (none-some content c)
-  boxed id content (Some (Ty.Unique t)) h c = absurd (none-some content c)
-  boxed id content (Some (Ty.Closure n)) h c = absurd (none-some content c)
+  boxed id content (Some other) h c = absurd (none-some content c)
 
   no_impl : (o : Option Ty) → option_map_or (ty_has_drop_impl items) o false ≡ false → drop_impl items o ≡ None
   no_impl None e = refl
@@ -84,17 +74,7 @@ module _ (items : ItemTable) where
           (option_map_or (λ (adt : Adt). adt.drop_body) o None) ≡ None
       by None k = refl
       by (Some adt) k = ap (with_drop_body n) (none_of adt.drop_body k)
-  no_impl (Some (Ty.Int kind)) e = refl
-  no_impl (Some Ty.Bool) e = refl
-  no_impl (Some Ty.Unit) e = refl
-  no_impl (Some Ty.Never) e = refl
-  no_impl (Some (Ty.Tuple ts)) e = refl
-  no_impl (Some (Ty.Array t c)) e = refl
-  no_impl (Some (Ty.Boxed t)) e = refl
-  no_impl (Some (Ty.Dyn n)) e = refl
-  no_impl (Some (Ty.Shared t)) e = refl
-  no_impl (Some (Ty.Unique t)) e = refl
-  no_impl (Some (Ty.Closure n)) e = refl
+  no_impl (Some other) e = refl
 
   not_numbered : (id : TyId) → needs_drop items id ≡ false → drop_impl items (type_at items id) ≡ None
   not_numbered id e = by (has_drop_impl items id) refl

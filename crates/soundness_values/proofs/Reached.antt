@@ -1,6 +1,6 @@
 -- What a place of the body that runs leads to stands at its address, whatever the place is: so what is done with a
 -- place can be said by addresses alone.
-use Rattle.std.proofs.Common.{◌≡◌, ℕ, ◌==◌, pos, ℤ, Bool, true, false, List, [], ◌∷◌, ◌++◌, length, Option, Some, None, if◌then◌else◌, refl, ap, sym, ◌∙◌, subst, append_assoc}
+use Rattle.std.proofs.Common.{◌≡◌, ℕ, ◌==◌, pos, Bool, true, false, List, [], ◌∷◌, ◌++◌, length, Option, Some, None, if◌then◌else◌, refl, ap, sym, ◌∙◌, subst, append_assoc}
 use Rattle.std.specs.Prelude.{option_and_then}
 use Rattle.std.proofs.lemmas.Bool.Decides.{Decides-eqb}
 use Rattle.std.proofs.lemmas.List.{append-nil}
@@ -80,13 +80,7 @@ module _ (setting : Setting) where
       element_stands : (d : Datum) (s u : Located) → Stands s → into_element setting w cells d s ≡ Reaches u →
           Stands u
       element_stands (Number (pos n)) s u h e = part_stands (Part n) s u h (some_reached (into I (Part n) s) u e)
-      element_stands (Number (ℤ.negsuc n)) s u h e = absurd (let never : ⊥ = cc in never)
-      element_stands Gone s u h e = absurd (let never : ⊥ = cc in never)
-      element_stands (Truth truth) s u h e = absurd (let never : ⊥ = cc in never)
-      element_stands UnitValue s u h e = absurd (let never : ⊥ = cc in never)
-      element_stands (Aggregate variant serial parts) s u h e = absurd (let never : ⊥ = cc in never)
-      element_stands (Box serial impl_no inside) s u h e = absurd (let never : ⊥ = cc in never)
-      element_stands (Address address) s u h e = absurd (let never : ⊥ = cc in never)
+      element_stands other s u h e = absurd (let never : ⊥ = cc in never)
 
       through_stands : (d : Datum) (s u : Located) → Stands s → through setting w cells d s ≡ Reaches u → Stands u
       through_stands (Address address) s u h e = behind_stands (named_by (concrete_ty I s.dynamic)) address u
@@ -104,12 +98,7 @@ module _ (setting : Setting) where
           ≡ Reaches u → Stands u
       field_stands variant n (Aggregate active serial parts) s u h e =
           part_stands (Part n) s u h (some_reached_if (variant == active) (into I (Part n) s) u e)
-      field_stands variant n Gone s u h e = absurd (let never : ⊥ = cc in never)
-      field_stands variant n (Number number) s u h e = absurd (let never : ⊥ = cc in never)
-      field_stands variant n (Truth truth) s u h e = absurd (let never : ⊥ = cc in never)
-      field_stands variant n UnitValue s u h e = absurd (let never : ⊥ = cc in never)
-      field_stands variant n (Box serial impl_no inside) s u h e = absurd (let never : ⊥ = cc in never)
-      field_stands variant n (Address address) s u h e = absurd (let never : ⊥ = cc in never)
+      field_stands variant n other s u h e = absurd (let never : ⊥ = cc in never)
 
       follow_stands : (step : Step) (s u : Located) → Stands s → follow setting w cells step s ≡ Reaches u → Stands u
       follow_stands (ToPart n) s u h e = part_stands (Part n) s u h (some_reached (into I (Part n) s) u e)
@@ -120,12 +109,7 @@ module _ (setting : Setting) where
       from_stands : (step : Step) (d : Datum) (s u : Located) → Stands s → follow_from setting w cells step d s
           ≡ Reaches u → Stands u
       from_stands step Gone s u h e = absurd (let never : ⊥ = cc in never)
-      from_stands step (Number number) s u h e = follow_stands step s u h e
-      from_stands step (Truth truth) s u h e = follow_stands step s u h e
-      from_stands step UnitValue s u h e = follow_stands step s u h e
-      from_stands step (Aggregate variant serial parts) s u h e = follow_stands step s u h e
-      from_stands step (Box serial impl_no inside) s u h e = follow_stands step s u h e
-      from_stands step (Address address) s u h e = follow_stands step s u h e
+      from_stands step other s u h e = follow_stands step s u h e
 
       along_stands : (steps : List Step) (s t : Located) → Stands s → along setting w cells steps s ≡ Reaches t →
           Stands t

@@ -1,9 +1,9 @@
 -- The relation of a run on values with a checked free run, whatever it says of two states; and how what follows a free
 -- run follows a checked one whose test holds: the facts may be others where it panics.
-use Rattle.std.proofs.Common.{◌≡◌, ℕ, Bool, true, false, List, [], ◌∷◌, ◌++◌, refl, ap}
+use Rattle.std.proofs.Common.{◌≡◌, ℕ, Bool, true, false, List, [], ◌++◌, refl, ap}
 use Rattle.store_model.proofs.Effects.Following.{Relation}
 use Rattle.store_model.specs.declared.address.Addr.{Addr}
-use Rattle.store_model.specs.Effects.{Halt, Aborted, OutOfTicks, Stuck, StuckAt, BadUse, BadStore, NoChoice, Infeasible, Unreachable, Out, Go, Unwind, Halts, Choice, Yes, No, Neither}
+use Rattle.store_model.specs.Effects.{Halt, Aborted, OutOfTicks, Stuck, BadUse, BadStore, Out, Go, Unwind, Halts, Choice, Yes, No, Neither}
 use Rattle.store_model.specs.Abstract.Effects.{AbstractState}
 use Rattle.store_model.specs.Abstract.Presence.{Presence}
 use Rattle.store_model.specs.Concrete.Location.{Setting}
@@ -65,13 +65,7 @@ module _ (said : State → Kept → Type 0) (halted : State → Type 0) where
         FollowsOut checked_rel tt (Halts halt w) g
     lapse Aborted w g k h = lapsed tt Aborted w g h
     lapse OutOfTicks w g k h = lapsed tt OutOfTicks w g h
-    lapse Stuck w g k h = absurd k
-    lapse (StuckAt body block) w g k h = absurd k
-    lapse (BadUse site) w g k h = absurd k
-    lapse (BadStore site) w g k h = absurd k
-    lapse NoChoice w g k h = absurd k
-    lapse Infeasible w g k h = absurd k
-    lapse Unreachable w g k h = absurd k
+    lapse other w g k h = absurd k
 
     pub checked_out : (goal went unwound : Facts) (o : Out State) (g : List Bool → Out AbstractState) →
         Goes o g goal went → Panics o g goal unwound → Ends o → FollowsOut (rels goal) tt o g →
@@ -87,12 +81,7 @@ module _ (said : State → Kept → Type 0) (halted : State → Type 0) where
         refused n o (BadUse site) (c, unwound) l _ tt (λ rest. ap (with_facts went unwound) (d rest))
     checked_out goal went unwound _ _ a b h (refused n o (BadStore site) c l g k d) =
         refused n o (BadStore site) (c, unwound) l _ tt (λ rest. ap (with_facts went unwound) (d rest))
-    checked_out goal went unwound _ _ a b h (refused n o Aborted c l g k d) = absurd k
-    checked_out goal went unwound _ _ a b h (refused n o OutOfTicks c l g k d) = absurd k
-    checked_out goal went unwound _ _ a b h (refused n o (StuckAt body block) c l g k d) = absurd k
-    checked_out goal went unwound _ _ a b h (refused n o NoChoice c l g k d) = absurd k
-    checked_out goal went unwound _ _ a b h (refused n o Infeasible c l g k d) = absurd k
-    checked_out goal went unwound _ _ a b h (refused n o Unreachable c l g k d) = absurd k
+    checked_out goal went unwound _ _ a b h (refused n o other c l g k d) = absurd k
 
     -- the same of a condition
     abbrev pub Takes : Choice State → (List Bool → Choice AbstractState) → (goal taken : Facts) → Type 0
@@ -110,13 +99,7 @@ module _ (said : State → Kept → Type 0) (halted : State → Type 0) where
         FollowsChoice checked_rel tt (Neither halt w) g
     lapse_choice Aborted w g k h = lapsed_choice tt Aborted w g h
     lapse_choice OutOfTicks w g k h = lapsed_choice tt OutOfTicks w g h
-    lapse_choice Stuck w g k h = absurd k
-    lapse_choice (StuckAt body block) w g k h = absurd k
-    lapse_choice (BadUse site) w g k h = absurd k
-    lapse_choice (BadStore site) w g k h = absurd k
-    lapse_choice NoChoice w g k h = absurd k
-    lapse_choice Infeasible w g k h = absurd k
-    lapse_choice Unreachable w g k h = absurd k
+    lapse_choice other w g k h = absurd k
 
     pub checked_choice : (goal taken declined : Facts) (o : Choice State) (g : List Bool → Choice AbstractState) →
         Takes o g goal taken → Declines o g goal declined → EndsChoice o → FollowsChoice (rels goal) tt o g →
@@ -133,9 +116,4 @@ module _ (said : State → Kept → Type 0) (halted : State → Type 0) where
         refused_choice n o (BadUse site) (c, declined) l _ tt (λ rest. ap (chosen_with taken declined) (d rest))
     checked_choice goal taken declined _ _ a b h (refused_choice n o (BadStore site) c l g k d) =
         refused_choice n o (BadStore site) (c, declined) l _ tt (λ rest. ap (chosen_with taken declined) (d rest))
-    checked_choice goal taken declined _ _ a b h (refused_choice n o Aborted c l g k d) = absurd k
-    checked_choice goal taken declined _ _ a b h (refused_choice n o OutOfTicks c l g k d) = absurd k
-    checked_choice goal taken declined _ _ a b h (refused_choice n o (StuckAt body block) c l g k d) = absurd k
-    checked_choice goal taken declined _ _ a b h (refused_choice n o NoChoice c l g k d) = absurd k
-    checked_choice goal taken declined _ _ a b h (refused_choice n o Infeasible c l g k d) = absurd k
-    checked_choice goal taken declined _ _ a b h (refused_choice n o Unreachable c l g k d) = absurd k
+    checked_choice goal taken declined _ _ a b h (refused_choice n o other c l g k d) = absurd k

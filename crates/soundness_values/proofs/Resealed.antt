@@ -1,12 +1,7 @@
 -- A value in which nothing is half taken from a value with a `Drop` impl stays so where a whole value is stored in
 -- it, and where something is taken of which no container has such an impl.
 use Rattle.std.proofs.Common.{◌≡◌, ◌⊎◌, inl, inr, ℕ, zero, suc, ◌&&◌, not, Bool, true, false, List, [], ◌∷◌, Option, Some, None, is_some, refl, ap, sym, ◌∙◌, subst}
-use Rattle.std.specs.Prelude.{option_and_then}
-use Rattle.std.specs.Option.{option_map_or}
 use Rattle.std.proofs.lemmas.Bool.{false≢true}
-use Rattle.mir_ty.specs.declared.ty.Ty.{Ty}
-use Rattle.mir_ty.specs.declared.ty.TyId.{TyId}
-use Rattle.mir_ty.specs.ItemTable.{ItemTable, type_at}
 use Rattle.store_model.proofs.Values.Access.{none_or_some, replaced-step, replaced-no_step}
 use Rattle.store_model.specs.declared.address.At.{At}
 use Rattle.store_model.specs.declared.address.At.TheVariants.{Part, Inside}
@@ -49,20 +44,10 @@ whole_replaced (step ∷ path) new root h k = by (none_or_some (part step root))
         is_whole (with_part step (replaced path new inner) root) ≡ true
     onto (Part n) (Aggregate variant serial parts) inner e k f =
         part_whole parts n inner (replaced path new inner) e k f
-    onto (Part n) Gone inner e k f = k
-    onto (Part n) (Number x) inner e k f = k
-    onto (Part n) (Truth x) inner e k f = k
-    onto (Part n) UnitValue inner e k f = k
-    onto (Part n) (Box a b c) inner e k f = k
-    onto (Part n) (Address x) inner e k f = k
     onto Inside (Box serial impl_no inside) inner e k f = let same : inside ≡ inner =
         cc in f (subst (λ d. is_whole d ≡ true) same k)
-    onto Inside Gone inner e k f = k
-    onto Inside (Number x) inner e k f = k
-    onto Inside (Truth x) inner e k f = k
-    onto Inside UnitValue inner e k f = k
-    onto Inside (Aggregate a b c) inner e k f = k
-    onto Inside (Address x) inner e k f = k
+    onto (Part n) other inner e k f = k
+    onto Inside other inner e k f = k
 
     by : (part step root ≡ None) ⊎ ((inner : Datum) × (part step root ≡ Some inner)) →
         ((inner : Datum) → is_whole inner ≡ true → is_whole (replaced path new inner) ≡ true) →

@@ -332,30 +332,7 @@ module _ (setting : Setting) (number : ℕ) (targets : List Target) (uniques : L
             (λ v c q. subst (λ p. R v c (record (without p (without site.place k.1)) { refilled = None }))
             (sym (first_place to site k.1 hole test)) q) went wound ended
             (refill_acts setting number targets uniques base is_target passed w k.0 k.1 hole h run to site test)
-        acts_emptied (effects.Put to (effects.Copied site)) w k hole h test went wound ended = absurd (false≢true test)
-        acts_emptied (effects.Put to (effects.Number value kind)) w k hole h test went wound ended =
-            absurd (false≢true test)
-        acts_emptied (effects.Put to (effects.Truth value)) w k hole h test went wound ended = absurd (false≢true test)
-        acts_emptied (effects.Put to effects.UnitValue) w k hole h test went wound ended = absurd (false≢true test)
-        acts_emptied (effects.Compare to operator left right) w k hole h test went wound ended = absurd
-            (false≢true test)
-        acts_emptied (effects.Not to operand) w k hole h test went wound ended = absurd (false≢true test)
-        acts_emptied (effects.Build to kind parts) w k hole h test went wound ended = absurd (false≢true test)
-        acts_emptied (effects.NewBox to content) w k hole h test went wound ended = absurd (false≢true test)
-        acts_emptied (effects.Unsize to trait_no operand) w k hole h test went wound ended = absurd (false≢true test)
-        acts_emptied (effects.Borrow to unique from) w k hole h test went wound ended = absurd (false≢true test)
-        acts_emptied (effects.Touch site) w k hole h test went wound ended = absurd (false≢true test)
-        acts_emptied (effects.Print operand) w k hole h test went wound ended = absurd (false≢true test)
-        acts_emptied (effects.Forget operand) w k hole h test went wound ended = absurd (false≢true test)
-        acts_emptied (effects.Free site) w k hole h test went wound ended = absurd (false≢true test)
-        acts_emptied (effects.Compute to operator left right) w k hole h test went wound ended = absurd
-            (false≢true test)
-        acts_emptied (effects.Negate to operand) w k hole h test went wound ended = absurd (false≢true test)
-        acts_emptied (effects.Bounds index count) w k hole h test went wound ended = absurd (false≢true test)
-        acts_emptied (effects.Call to body args) w k hole h test went wound ended = absurd (false≢true test)
-        acts_emptied (effects.CallVirtual to trait_no method args) w k hole h test went wound ended =
-            absurd (false≢true test)
-        acts_emptied (effects.Ask to) w k hole h test went wound ended = absurd (false≢true test)
+        acts_emptied other w k hole h test went wound ended = absurd (false≢true test)
 
         pub act_follows : (action : Action) (w : State) (k : Kept) → Related w k →
             may_act items local_ty is_target k.1 k.0 action ≡ true → FollowsAct action w k
@@ -502,10 +479,4 @@ module _ (setting : Setting) (number : ℕ) (targets : List Target) (uniques : L
                   lapses : (halt : Halt) (v : State) → MayEnd halt → MayLapse halt v
                   lapses effects.Aborted v m = tt
                   lapses effects.OutOfTicks v m = tt
-                  lapses effects.Stuck v m = m
-                  lapses (effects.StuckAt b c) v m = m
-                  lapses (effects.BadUse at) v m = m
-                  lapses (effects.BadStore at) v m = m
-                  lapses effects.NoChoice v m = m
-                  lapses effects.Infeasible v m = m
-                  lapses effects.Unreachable v m = m
+                  lapses other v m = m

@@ -10,7 +10,7 @@ use Rattle.store_model.proofs.Values.Access.{replaced-step, part-replaced, repla
 use Rattle.store_model.specs.declared.address.Addr.{Addr}
 use Rattle.store_model.specs.declared.address.At.{At}
 use Rattle.store_model.specs.declared.address.At.TheVariants.{Part, Inside}
-use Rattle.store_model.specs.Values.Datum.{Datum, Gone, Number, Truth, UnitValue, Aggregate, Box, Address}
+use Rattle.store_model.specs.Values.Datum.{Datum, Gone}
 use Rattle.store_model.specs.Values.Access.{part, with_part, value_at, replaced}
 use Rattle.store_model.specs.Concrete.Location.{Setting, DynamicType, OfType, type_of_part, Located, below, into, into_all, located_part, located_root, located_in, located_at, stored_at, root_of}
 pub use Rattle.soundness_values.specs.Frames.{SameCells, Alike, none_runs, one_runs}
@@ -193,19 +193,9 @@ module _ (items : ItemTable) where
   type_after : (step : At) (new v : Datum) (dynamic : DynamicType) →
       type_of_part items step (with_part step new v) dynamic ≡ type_of_part items step v dynamic
   type_after (Part n) new Gone dynamic = refl
-  type_after (Part n) new (Number number) dynamic = refl
-  type_after (Part n) new (Truth truth) dynamic = refl
-  type_after (Part n) new UnitValue dynamic = refl
-  type_after (Part n) new (Aggregate variant serial parts) dynamic = refl
-  type_after (Part n) new (Box serial impl_no inside) dynamic = refl
-  type_after (Part n) new (Address address) dynamic = refl
   type_after Inside new Gone dynamic = refl
-  type_after Inside new (Number number) dynamic = refl
-  type_after Inside new (Truth truth) dynamic = refl
-  type_after Inside new UnitValue dynamic = refl
-  type_after Inside new (Aggregate variant serial parts) dynamic = refl
-  type_after Inside new (Box serial impl_no inside) dynamic = refl
-  type_after Inside new (Address address) dynamic = refl
+  type_after (Part n) new other dynamic = refl
+  type_after Inside new other dynamic = refl
 
   pub into_one : (step : At) (s : Located) → into_all items (step ∷ []) s ≡ into items step s
   into_one step s = by (into items step s)

@@ -1,6 +1,5 @@
 -- A place that is sure to lead on is so still after a change at another that it does not overlap.
 use Rattle.std.proofs.Common.{◌≡◌, ℕ, ◌==◌, ◌&&◌, ◌||◌, not, Bool, true, false, List, [], ◌∷◌, ◌++◌, filter, Option, Some, None, if◌then◌else◌, refl, ap, sym, ◌∙◌, subst, append_assoc}
-use Rattle.std.specs.Prelude.{option_and_then}
 use Rattle.std.specs.List.{list_any}
 use Rattle.std.proofs.lemmas.Bool.{false≢true}
 use Rattle.std.proofs.lemmas.Bool.Decides.{Decides-eqb}
@@ -99,30 +98,10 @@ module _ (items : ItemTable) (b b' : ℕ → ℕ → Bool) (v v' : List Step →
   step_still so_far (ToField variant n) ty f g h =
       either (variant == 0 && has_one_variant items ty) (v so_far variant) (v' so_far variant) (g variant) h
   step_still so_far ToContent (Ty.Boxed t) f g h = h
-  step_still so_far ToContent (Ty.Int k) f g h = h
-  step_still so_far ToContent Ty.Bool f g h = h
-  step_still so_far ToContent Ty.Unit f g h = h
-  step_still so_far ToContent Ty.Never f g h = h
-  step_still so_far ToContent (Ty.Adt n) f g h = h
-  step_still so_far ToContent (Ty.Tuple ts) f g h = h
-  step_still so_far ToContent (Ty.Array t n) f g h = h
-  step_still so_far ToContent (Ty.Dyn n) f g h = h
-  step_still so_far ToContent (Ty.Shared t) f g h = h
-  step_still so_far ToContent (Ty.Unique t) f g h = h
-  step_still so_far ToContent (Ty.Closure n) f g h = h
   step_still so_far (ToElement i) (Ty.Array t count) f g h =
       f i count (ap (λ x. x || false) ((Decides-eqb i i).1 refl)) h
-  step_still so_far (ToElement i) (Ty.Int k) f g h = h
-  step_still so_far (ToElement i) Ty.Bool f g h = h
-  step_still so_far (ToElement i) Ty.Unit f g h = h
-  step_still so_far (ToElement i) Ty.Never f g h = h
-  step_still so_far (ToElement i) (Ty.Adt n) f g h = h
-  step_still so_far (ToElement i) (Ty.Tuple ts) f g h = h
-  step_still so_far (ToElement i) (Ty.Boxed t) f g h = h
-  step_still so_far (ToElement i) (Ty.Dyn n) f g h = h
-  step_still so_far (ToElement i) (Ty.Shared t) f g h = h
-  step_still so_far (ToElement i) (Ty.Unique t) f g h = h
-  step_still so_far (ToElement i) (Ty.Closure n) f g h = h
+  step_still so_far ToContent other f g h = h
+  step_still so_far (ToElement i) other f g h = h
 
   here_index : (key : ℕ) (step : Step) (steps : List Step) → takes_index key (step ∷ []) ≡ true →
       takes_index key (step ∷ steps) ≡ true

@@ -1,10 +1,9 @@
 -- Operands of a checked run: a value that is copied or moved is whole and of the type of its place, and what is
 -- known goes on to hold. So each follows that of a free run, which takes no choice.
-use Rattle.std.proofs.Common.{◌≡◌, ◌⊎◌, inl, inr, ℕ, ℤ, ◌==◌, ◌&&◌, not, Bool, true, false, List, [], ◌∷◌, ◌++◌, length, Option, Some, None, refl, ap, sym, ◌∙◌, subst}
-use Rattle.std.specs.Prelude.{slice_get, option_and_then}
+use Rattle.std.proofs.Common.{◌≡◌, ℕ, ℤ, ◌&&◌, not, Bool, true, false, List, [], length, Option, Some, None, refl, ap, sym, ◌∙◌, subst}
+use Rattle.std.specs.Prelude.{option_and_then}
 use Rattle.std.specs.Option.{option_map_or}
 use Rattle.std.proofs.lemmas.Bool.{false≢true}
-use Rattle.std.proofs.lemmas.Option.{none-some}
 use Rattle.mir_base.specs.declared.int_kind.IntKind.{IntKind}
 use Rattle.mir_ty.specs.declared.ty.Ty.{Ty}
 use Rattle.mir_ty.specs.declared.ty.TyId.{TyId}
@@ -14,32 +13,31 @@ use Rattle.store_model.specs.declared.address.Addr.{Addr}
 use Rattle.store_model.specs.Values.Datum.{Datum, Gone, Number, Truth, UnitValue, Aggregate, Box, Address}
 use Rattle.store_model.specs.Values.Access.{replaced}
 use Rattle.store_model.specs.Effects as effects
-use Rattle.store_model.specs.Effects.{EffectSite, Operand, Halt, Aborted, OutOfTicks, Stuck, BadUse, BadStore, Out, Go, Halts, on_go}
+use Rattle.store_model.specs.Effects.{EffectSite, Operand, Halt, Aborted, OutOfTicks, BadUse, Out, Go, on_go}
 use Rattle.store_model.specs.Abstract.Effects as free
 use Rattle.store_model.specs.Abstract.Effects.{AbstractState, presence, with_presence, may_use, when, watched_at, acted, unless_never, operand_used}
 use Rattle.store_model.specs.Abstract.Presence.{Presence, is_present, after_action}
 use Rattle.store_model.specs.Places.Place.{Place, place_ty, is_reference}
 use Rattle.store_model.specs.Places.TypeForms.{is_never, is_dyn}
 use Rattle.store_model.specs.Concrete.Effects.{or_stuck, whole_at, evaluate_operand}
-use Rattle.store_model.specs.Concrete.Location.{Setting, DynamicType, OfType, concrete_ty, Located, stored_at}
+use Rattle.store_model.specs.Concrete.Location.{Setting, DynamicType, OfType, Located, stored_at}
 use Rattle.store_model.specs.Concrete.State.{State, cell}
-use Rattle.soundness_values.proofs.Doing.{FollowsOut, goes_on, refused, out_after}
+use Rattle.soundness_values.proofs.Doing.{FollowsOut, refused, out_after}
 use Rattle.soundness_values.specs.Typed.{is_aggregate, number_fits}
 use Rattle.soundness_values.proofs.Feeding.{fed}
-use Rattle.soundness_values.proofs.Fits.{Fits, whole_if_present}
+use Rattle.soundness_values.proofs.Fits.{Fits}
 use Rattle.soundness_values.proofs.Sealed.{Sealed}
 use Rattle.soundness_values.proofs.Ways.{has_index, fits_changed}
-use Rattle.soundness_values.proofs.Along.{path_at, are_plain, containers_along, IsFound, as_type, as_object}
-use Rattle.soundness_values.proofs.Leading.{Leads}
-use Rattle.soundness_values.proofs.Watching.{watched_own, use_own, acted_whole}
+use Rattle.soundness_values.proofs.Along.{path_at, are_plain, IsFound, as_type, as_object}
+use Rattle.soundness_values.proofs.Watching.{acted_whole}
 use Rattle.soundness_values.proofs.FoundAlike.{fits_alike}
 use Rattle.soundness_values.proofs.Facts.{Facts, without}
 use Rattle.soundness_values.proofs.Dropped.{feeding}
 use Rattle.soundness_values.proofs.Known.{Target}
 use Rattle.soundness_values.proofs.Running.{sure_place, Passed, Runs, Lies, in_local, behind, lies}
-use Rattle.soundness_values.proofs.Reaching.{Stands, stands, stands_whole, Used, used, own_watched}
+use Rattle.soundness_values.proofs.Reaching.{stands, Used, used, own_watched}
 use Rattle.soundness_values.proofs.Changing.{own_changed}
-use Rattle.soundness_values.proofs.Checks.{id_of, ty_of, is_of, form_of, is_value, may_move, takes_well, after_operand}
+use Rattle.soundness_values.proofs.Checks.{ty_of, is_value, may_move, takes_well, after_operand}
 
 pub first : (a b : Bool) → (a && b) ≡ true → a ≡ true
 first true b h = refl
@@ -82,9 +80,6 @@ module _ (setting : Setting) (number : ℕ) (targets : List Target) (uniques : L
       by : (o : Option Ty) → type_at items id ≡ o → (d : Datum) → Fits items (OfType id) is_present d →
           is_never o ≡ false
       by None e d k = refl
-      by (Some (Ty.Int kind)) e d k = refl
-      by (Some Ty.Bool) e d k = refl
-      by (Some Ty.Unit) e d k = refl
       by (Some Ty.Never) e Gone k = absurd (false≢true k)
       by (Some Ty.Never) e (Number n) k = absurd (let never : ⊥ = cc in never)
       by (Some Ty.Never) e (Truth truth) k = absurd (let never : ⊥ = cc in never)
@@ -93,14 +88,7 @@ module _ (setting : Setting) (number : ℕ) (targets : List Target) (uniques : L
           absurd (false≢true (sym (ap is_aggregate e) ∙ first (is_aggregate (type_at items id)) _ k.2))
       by (Some Ty.Never) e (Box serial impl_no inside) k = absurd (let never : ⊥ = cc in never)
       by (Some Ty.Never) e (Address address) k = absurd (let never : ⊥ = cc in never)
-      by (Some (Ty.Adt n)) e d k = refl
-      by (Some (Ty.Tuple ts)) e d k = refl
-      by (Some (Ty.Array t n)) e d k = refl
-      by (Some (Ty.Boxed t)) e d k = refl
-      by (Some (Ty.Dyn n)) e d k = refl
-      by (Some (Ty.Shared t)) e d k = refl
-      by (Some (Ty.Unique t)) e d k = refl
-      by (Some (Ty.Closure n)) e d k = refl
+      by (Some other) e d k = refl
 
   -- a value of no `dyn` type is found as its type
   pub as_its_type : (end : TyId) (s : Located) → IsFound items end s.dynamic → is_dyn (type_at items end) ≡ false →

@@ -1,7 +1,7 @@
 -- Tests of variants, bounds and results of a checked run: the variant that is tested is known where the test holds, and
 -- the number that is bounded where it is below the length.
-use Rattle.std.proofs.Common.{◌≡◌, ℕ, pos, negsuc, ℤ, ◌<◌, ◌==◌, ◌&&◌, not, Bool, true, false, List, [], ◌∷◌, ◌++◌, length, Option, Some, None, is_some, refl, ap, sym, ◌∙◌, subst}
-use Rattle.std.specs.Prelude.{slice_get, option_and_then, int_lt}
+use Rattle.std.proofs.Common.{◌≡◌, ℕ, pos, negsuc, ℤ, ◌<◌, ◌==◌, ◌&&◌, not, Bool, true, false, List, [], ◌∷◌, length, Option, Some, None, is_some, refl, ap, sym, ◌∙◌, subst}
+use Rattle.std.specs.Prelude.{option_and_then, int_lt}
 use Rattle.std.specs.Option.{option_map_or}
 use Rattle.std.proofs.lemmas.Bool.{false≢true, ltb-true}
 use Rattle.std.proofs.lemmas.Bool.Decides.{Decides-eqb}
@@ -11,22 +11,22 @@ use Rattle.mir_ty.specs.declared.ty.TyId.{TyId}
 use Rattle.mir_ty.specs.ItemTable.{ItemTable, type_at}
 use Rattle.store_model.proofs.Effects.Following.{Relation}
 use Rattle.store_model.specs.declared.address.Addr.{Addr}
-use Rattle.store_model.specs.Values.Datum.{Datum, Gone, Number, Truth, UnitValue, Aggregate, Box, Address}
+use Rattle.store_model.specs.Values.Datum.{Datum, Number}
 use Rattle.store_model.specs.Values.Wholeness.{is_whole}
 use Rattle.store_model.specs.Effects as effects
-use Rattle.store_model.specs.Effects.{EffectSite, Stuck, BadUse, Out, Go, Unwind, Halts, Choice, Neither}
+use Rattle.store_model.specs.Effects.{EffectSite, Stuck, BadUse, Go, Choice, Neither}
 use Rattle.store_model.specs.Abstract.Effects as free
 use Rattle.store_model.specs.Abstract.Effects.{AbstractState, presence, may_test, watched_at}
 use Rattle.store_model.specs.Abstract.Presence.{Presence, all_present}
 use Rattle.store_model.specs.Places.Place.{Step, Place, is_enum, whole_local}
 use Rattle.store_model.specs.Places.TypeForms.{is_int, int_kind}
 use Rattle.store_model.specs.Concrete.Effects as values
-use Rattle.store_model.specs.Concrete.Effects.{act, whole_at, whole, number_of_truth}
+use Rattle.store_model.specs.Concrete.Effects.{act, whole_at, whole}
 use Rattle.store_model.specs.Concrete.Location.{Setting, OfType, Located, on_reached, reach}
 use Rattle.store_model.specs.Concrete.State.{State, Bodies, cell}
 use Rattle.soundness_values.proofs.Doing.{FollowsOut, goes_on, unwinds, FollowsChoice, takes, declines, refused_choice}
 use Rattle.soundness_values.specs.Typed.{number_fits}
-use Rattle.soundness_values.proofs.Checked.{with_facts, chosen_with}
+use Rattle.soundness_values.proofs.Checked.{chosen_with}
 use Rattle.soundness_values.proofs.Checks.{id_of, ty_of, is_none, no_steps, with_bounded, with_variant, takes_well, acts_well, may_give}
 use Rattle.soundness_values.proofs.Choosing.{also_bounded, also_variant, Variant, variant_found}
 use Rattle.soundness_values.proofs.Dropped.{feeding}
@@ -34,11 +34,11 @@ use Rattle.soundness_values.proofs.Facts.{Facts}
 use Rattle.soundness_values.proofs.Fits.{Fits, whole_if_present}
 use Rattle.soundness_values.proofs.Known.{Target}
 use Rattle.soundness_values.proofs.Reaching.{from_root}
-use Rattle.soundness_values.proofs.Relating.{Kept, feeds, checked_rel}
-use Rattle.soundness_values.proofs.Running.{sure_place, sure_in, Passed, Runs, BoundedHolds, VariantStands}
+use Rattle.soundness_values.proofs.Relating.{Kept, checked_rel}
+use Rattle.soundness_values.proofs.Running.{sure_place, sure_in, Passed, Runs, VariantStands}
 use Rattle.soundness_values.proofs.Changing.{runs_alike, known_held}
 use Rattle.soundness_values.proofs.Standings.{alike_itself}
-use Rattle.soundness_values.proofs.Taking.{first, second, rel, ValueOf, operand_follows}
+use Rattle.soundness_values.proofs.Taking.{first, second, rel, operand_follows}
 use Rattle.soundness_values.proofs.Acting.{int_is, operand_number}
 
 -- a number that is no less than 0
@@ -223,12 +223,7 @@ module _ (setting : Setting) (number : ℕ) (targets : List Target) (uniques : L
             where
               some_kind : {a b : IntKind} → Some a ≡ Some b → a ≡ b
               some_kind k = cc
-          by_value p Gone fit true e = absurd (let never : ⊥ = cc in never)
-          by_value p (Truth truth) fit true e = absurd (let never : ⊥ = cc in never)
-          by_value p UnitValue fit true e = absurd (let never : ⊥ = cc in never)
-          by_value p (Aggregate variant serial parts) fit true e = absurd (let never : ⊥ = cc in never)
-          by_value p (Box serial impl_no inside) fit true e = absurd (let never : ⊥ = cc in never)
-          by_value p (Address address) fit true e = absurd (let never : ⊥ = cc in never)
+          by_value p other fit true e = absurd (let never : ⊥ = cc in never)
 
           reached_it : whole_at setting w site ≡ whole setting (root site.place.local id)
           reached_it = ap (λ r. on_reached r (whole setting) None None) (ap (λ p. reach setting w p) in_a_local

@@ -200,18 +200,9 @@ module _ (items : ItemTable) (is_bounded : ℕ → ℕ → Bool) (is_variant : L
   not_by_reference : (so_far : List Step) (ty : Ty) → is_sure items is_bounded is_variant so_far ToContent ty
       ≡ true →
       is_reference (Some ty) ≡ false
-  not_by_reference so_far (Ty.Boxed inside) h = refl
-  not_by_reference so_far (Ty.Int x) h = refl
-  not_by_reference so_far Ty.Bool h = refl
-  not_by_reference so_far Ty.Unit h = refl
-  not_by_reference so_far Ty.Never h = refl
-  not_by_reference so_far (Ty.Adt x) h = refl
-  not_by_reference so_far (Ty.Tuple x) h = refl
-  not_by_reference so_far (Ty.Array x y) h = refl
-  not_by_reference so_far (Ty.Dyn x) h = refl
   not_by_reference so_far (Ty.Shared x) h = absurd (false≢true h)
   not_by_reference so_far (Ty.Unique x) h = absurd (false≢true h)
-  not_by_reference so_far (Ty.Closure x) h = refl
+  not_by_reference so_far other h = refl
 
   pub watched_sure : (so_far steps : List Step) (id : TyId) → are_sure items is_bounded is_variant so_far steps id
       ≡ true → watched items (Some id) steps ≡ watched_own steps

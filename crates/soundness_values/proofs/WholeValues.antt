@@ -1,16 +1,15 @@
 -- A whole value of a type is one that fits what is wholly present, and back.
-use Rattle.std.proofs.Common.{◌≡◌, ℕ, suc, ◌==◌, ◌&&◌, ◌||◌, Bool, true, false, Option, Some, None, is_some, refl, ap, sym, ◌∙◌, subst}
+use Rattle.std.proofs.Common.{◌≡◌, ℕ, suc, ◌==◌, ◌&&◌, ◌||◌, Bool, true, false, Option, Some, None, refl}
 use Rattle.std.specs.Prelude.{slice_get, nat_lt, length}
 use Rattle.std.specs.Option.{option_map_or}
 use Rattle.std.proofs.lemmas.Bool.{false≢true}
 use Rattle.mir_ty.specs.declared.ty.Ty.{Ty}
 use Rattle.mir_ty.specs.ItemTable.{ItemTable}
 use Rattle.mir_ty.specs.Parts.{variants_of}
-use Rattle.store_model.specs.declared.address.At.TheVariants.{Part}
 use Rattle.store_model.specs.Values.Datum.{Datum, Data, Gone, Number, Truth, UnitValue, Aggregate, Box, Address, no_part, a_part}
-use Rattle.store_model.specs.Abstract.Presence.{Presence, is_present, presence_at}
+use Rattle.store_model.specs.Abstract.Presence.{is_present}
 use Rattle.store_model.specs.Places.Place.{is_enum}
-use Rattle.store_model.specs.Concrete.Location.{DynamicType, concrete_ty, type_of_part}
+use Rattle.store_model.specs.Concrete.Location.{DynamicType, concrete_ty}
 use Rattle.soundness_values.specs.Typed.{is_aggregate, has_variant, IsOf, ArePartsOf}
 use Rattle.soundness_values.proofs.Fits.{variant_exists, Fits, PartsFit}
 
@@ -39,14 +38,7 @@ module _ (items : ItemTable) where
   variant_fits (Some (Ty.Tuple ts)) variant h = both (variant == 0) true h refl
   variant_fits (Some (Ty.Array t c)) variant h = both (variant == 0) true h refl
   variant_fits (Some (Ty.Closure n)) variant h = both (variant == 0) true h refl
-  variant_fits (Some (Ty.Int k)) variant h = absurd (false≢true h)
-  variant_fits (Some Ty.Bool) variant h = absurd (false≢true h)
-  variant_fits (Some Ty.Unit) variant h = absurd (false≢true h)
-  variant_fits (Some Ty.Never) variant h = absurd (false≢true h)
-  variant_fits (Some (Ty.Boxed t)) variant h = absurd (false≢true h)
-  variant_fits (Some (Ty.Dyn n)) variant h = absurd (false≢true h)
-  variant_fits (Some (Ty.Shared t)) variant h = absurd (false≢true h)
-  variant_fits (Some (Ty.Unique t)) variant h = absurd (false≢true h)
+  variant_fits (Some other) variant h = absurd (false≢true h)
 
   variant_is : (o : Option Ty) (variant : ℕ) →
       (is_aggregate o && ((option_map_or (is_enum items) o false || variant == 0) && variant_exists items o variant))
@@ -58,14 +50,7 @@ module _ (items : ItemTable) where
   variant_is (Some (Ty.Tuple ts)) variant h = first (variant == 0) true h
   variant_is (Some (Ty.Array t c)) variant h = first (variant == 0) true h
   variant_is (Some (Ty.Closure n)) variant h = first (variant == 0) true h
-  variant_is (Some (Ty.Int k)) variant h = absurd (false≢true h)
-  variant_is (Some Ty.Bool) variant h = absurd (false≢true h)
-  variant_is (Some Ty.Unit) variant h = absurd (false≢true h)
-  variant_is (Some Ty.Never) variant h = absurd (false≢true h)
-  variant_is (Some (Ty.Boxed t)) variant h = absurd (false≢true h)
-  variant_is (Some (Ty.Dyn n)) variant h = absurd (false≢true h)
-  variant_is (Some (Ty.Shared t)) variant h = absurd (false≢true h)
-  variant_is (Some (Ty.Unique t)) variant h = absurd (false≢true h)
+  variant_is (Some other) variant h = absurd (false≢true h)
 
   mutual
     pub fits_of : (d : Datum) (found : DynamicType) → IsOf items found d → Fits items found is_present d

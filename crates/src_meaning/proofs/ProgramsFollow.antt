@@ -232,15 +232,7 @@ module _ {W V : Type 0} (rel : Relation W V) where
       form_follow (tree.Break loop value) h s = scope_follow _ _ h s (breaks_follow loop h (if_any_follow value))
       form_follow (tree.Continue loop) h s = at_once (Continues loop) h s
       form_follow (tree.Return value) h s = scope_follow _ _ h s (returns_follow h (if_any_follow value))
-      form_follow tree.Wildcard h s = at_once Value h s
-      form_follow (tree.Binding name) h s = at_once Value h s
-      form_follow (tree.NumberPattern value) h s = at_once Value h s
-      form_follow (tree.TruthPattern value) h s = at_once Value h s
-      form_follow (tree.StructPattern fields) h s = at_once Value h s
-      form_follow (tree.VariantPattern variant is_test fields) h s = at_once Value h s
-      form_follow (tree.TuplePattern parts) h s = at_once Value h s
-      form_follow (tree.ArrayPattern elements) h s = at_once Value h s
-      form_follow (tree.OrPattern alternatives) h s = at_once Value h s
+      form_follow other h s = at_once Value h s
 
       meanings_follow : (ns : Nodes) → FollowsMeanings rel (meanings items p fuel ns) (meanings items q fuel' ns)
       meanings_follow no_node = no_meaning

@@ -191,12 +191,7 @@ sample TokenKind.Derive = Token.Name (100 ∷ 101 ∷ 114 ∷ 105 ∷ 118 ∷ 10
 pub is_sample : (k : TokenKind) → is k (sample k) ≡ true
 is_sample (TokenKind.Mark m) = eq-eqb (mark_number m) (mark_number m) refl
 is_sample (TokenKind.Word w) = eq-eqb (word_number w) (word_number w) refl
-is_sample TokenKind.Name = refl
-is_sample TokenKind.Number = refl
-is_sample TokenKind.Digits = refl
-is_sample TokenKind.Label = refl
-is_sample TokenKind.Text = refl
-is_sample TokenKind.Derive = refl
+is_sample other = refl
 
 abbrev pub leaf_block : Tree
 leaf_block = node tt GrammarRow.Block (tok (Token.Mark Mark.OpenBrace) (tok (Token.Mark Mark.CloseBrace) end))

@@ -92,18 +92,7 @@ sort_number_in Sort.Label = 12
 sort_in : (s : Sort) → slice_get sorts (sort_number_in s) ≡ Some s
 unfolding sort_number_in
 sort_in Sort.File = refl
-sort_in Sort.Item = refl
-sort_in Sort.Method = refl
-sort_in Sort.Head = refl
-sort_in Sort.Field = refl
-sort_in Sort.Variant = refl
-sort_in Sort.Name = refl
-sort_in Sort.Type_ = refl
-sort_in Sort.Pattern = refl
-sort_in Sort.FieldPattern = refl
-sort_in Sort.Expr = refl
-sort_in Sort.FieldInit = refl
-sort_in Sort.Label = refl
+sort_in other = refl
 
 start_number_in : Start → ℕ
 start_number_in Start.Anything = 0
@@ -124,19 +113,7 @@ start_number_in Start.IsParam = 13
 start_in : (s : Start) → slice_get starts (start_number_in s) ≡ Some s
 unfolding start_number_in
 start_in Start.Anything = refl
-start_in Start.Statement = refl
-start_in Start.NextStatement = refl
-start_in Start.Value = refl
-start_in Start.NotBlocklike = refl
-start_in Start.ArmBody = refl
-start_in Start.NotBlock = refl
-start_in Start.Jump = refl
-start_in Start.JumpInHead = refl
-start_in Start.OnlyLabel = refl
-start_in Start.OnlyBlock = refl
-start_in Start.BlockOrIf = refl
-start_in Start.IsArm = refl
-start_in Start.IsParam = refl
+start_in other = refl
 
 alike_is : (r x : GrammarRow) → alike r x ≡ true → Alike r x
 alike_is r x h c =

@@ -47,19 +47,12 @@ pub is_like : (k : TokenKind) (t : Token) → is k t ≡ is k (like t)
 is_like TokenKind.Derive (Token.Name n) = like_derive n
 is_like (TokenKind.Mark m) (Token.Name n) = refl
 is_like (TokenKind.Word w) (Token.Name n) = refl
-is_like _ (Token.Name n) = refl
 is_like (TokenKind.Mark m) (Token.Number v None) = refl
 is_like _ (Token.Number v None) = refl
 is_like (TokenKind.Mark m) (Token.Number v (Some k)) = refl
 is_like _ (Token.Number v (Some k)) = refl
-is_like (TokenKind.Mark m) (Token.Word w) = refl
-is_like _ (Token.Word w) = refl
-is_like (TokenKind.Mark m) (Token.Label n) = refl
-is_like _ (Token.Label n) = refl
-is_like (TokenKind.Mark m) (Token.Text n) = refl
-is_like _ (Token.Text n) = refl
-is_like (TokenKind.Mark m) (Token.Mark n) = refl
-is_like _ (Token.Mark n) = refl
+is_like (TokenKind.Mark m) other = refl
+is_like _ other = refl
 
 pub move_like : (q : GrammarRest) (t : Token) → move q t ≡ move q (like t)
 move_like (ends r) t = refl
@@ -131,12 +124,9 @@ none_like ks t = ap not (among_like ks t)
 
 pub quiet_like : (n : ℕ) (h : Bool) (t : Token) → quiet n h t ≡ quiet n h (like t)
 quiet_like n h (Token.Name x) = refl
-quiet_like n h (Token.Word w) = refl
 quiet_like n h (Token.Number v None) = refl
 quiet_like n h (Token.Number v (Some k)) = refl
-quiet_like n h (Token.Label x) = refl
-quiet_like n h (Token.Text x) = refl
-quiet_like n h (Token.Mark m) = refl
+quiet_like n h other = refl
 
 pub calm_like : (h : Bool) (r : GrammarRow) (t : Token) → calm h r t ≡ calm h r (like t)
 calm_like true GrammarRow.File (Token.Name x) = refl
@@ -216,10 +206,7 @@ follow_by Sort.Pattern n h st y t = follow_pattern n h st y t
 follow_by _ n h st y (Token.Name x) = refl
 follow_by _ n h st y (Token.Number v None) = refl
 follow_by _ n h st y (Token.Number v (Some k)) = refl
-follow_by _ n h st y (Token.Label x) = refl
-follow_by _ n h st y (Token.Text x) = refl
-follow_by _ n h st y (Token.Word w) = refl
-follow_by _ n h st y (Token.Mark m) = refl
+follow_by _ n h st y other = refl
 
 pub follow_like : (c : GrammarPlace) (y : Shape) (t : Token) → follow c y t ≡ follow c y (like t)
 follow_like c y t = follow_by c.sort c.least c.head c.start y t

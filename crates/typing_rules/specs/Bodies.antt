@@ -165,7 +165,8 @@ types_of entries = map (λ x. x.ty) entries
 abbrev pub inside_closure : Env → List NamedEntry → Env
 inside_closure env captures = with_variables captures (record env { variables = [] })
 
-abbrev pub closure_body : Env → Rule → Pos → ℕ → TyId → List NamedEntry → Syns → MaybeSyn → (Env → Typer) → Check BodyTree
+abbrev pub closure_body : Env → Rule → Pos → ℕ → TyId → List NamedEntry → Syns → MaybeSyn → (Env → Typer) →
+    Check BodyTree
 closure_body env too_many at n ty captures params answer block = with_body (λ b. b) (in_new_body do
   self ← name_param at [] ty
   ps ← params_of (inside_closure env captures) (written (all_rules env)) params []

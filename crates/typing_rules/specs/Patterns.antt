@@ -157,7 +157,8 @@ abbrev pub is_unit_kind : FieldsKind → Bool
 is_unit_kind Unit_ = true
 is_unit_kind _ = false
 
-abbrev pub no_parts : List NamedEntry → Bool → PatternContext → List TyId → Check (Fields × List NamedEntry × Bool × Bool)
+abbrev pub no_parts : List NamedEntry → Bool → PatternContext → List TyId →
+    Check (Fields × List NamedEntry × Bool × Bool)
 no_parts earlier is_whole e tys = pure (tree.no_field, earlier, is_whole, true)
 
 abbrev pub lone_struct : Env → Pos → PatternContext → TyId → ℕ → List NamedEntry → Check BoundPattern
@@ -165,7 +166,8 @@ lone_struct env at e ty adt earlier =
     if is_unit_kind (kind_at env.kinds adt 0) then of_target at e ty (target adt 0) (no_parts earlier true)
     else breaks Rule.T18 at
 
-abbrev pub lone_by : Env → Pos → PatternContext → TyId → Word → List NamedEntry → Option ℕ → ItemTable → Check BoundPattern
+abbrev pub lone_by : Env → Pos → PatternContext → TyId → Word → List NamedEntry → Option ℕ → ItemTable →
+    Check BoundPattern
 lone_by env at e ty name earlier None items = bind at e ty name earlier
 lone_by env at e ty name earlier (Some adt) items =
     if is_enum items adt then bind at e ty name earlier else lone_struct env at e ty adt earlier
@@ -176,7 +178,8 @@ lone_name env at e ty name earlier = do
   lone_by env at e ty name earlier (adt_named items name) items
 
 -- a path alone: `Self` as a lone name, a variant without parts
-abbrev pub path_alone : Env → Pos → PatternContext → TyId → Option Word → Option Word → List NamedEntry → Check BoundPattern
+abbrev pub path_alone : Env → Pos → PatternContext → TyId → Option Word → Option Word → List NamedEntry →
+    Check BoundPattern
 path_alone env at e ty first None earlier = do
   adt ← known Rule.T01 at env.self_adt
   items ← the_items
@@ -314,7 +317,8 @@ abbrev mutual
     items ← the_items
     t ← known Rule.T01 at (target_of items env first second)
     of_target at e ty t
-        (λ inside tys. in_order_end env t (count_of parts) (length tys) dots (part_patterns env inside tys parts earlier))
+        (λ inside tys. in_order_end env t (count_of parts) (length tys) dots
+        (part_patterns env inside tys parts earlier))
   pattern_form env e ty at (FieldsPattern first second fields dots) earlier = do
     items ← the_items
     t ← known Rule.T01 at (target_of items env first second)
@@ -354,7 +358,8 @@ abbrev mutual
     pure (a_node p.0 ps.0, ps.1)
 
   -- patterns of fields by their names; one for a field that is not there is not typed
-  pub field_patterns : Env → PatternContext → Variant → Syns → List NamedEntry → Check (Fields × List NamedEntry × Given)
+  pub field_patterns : Env → PatternContext → Variant → Syns → List NamedEntry →
+      Check (Fields × List NamedEntry × Given)
   field_patterns env e v no_syn earlier = pure (tree.no_field, earlier, [])
   field_patterns env e v (a_syn first rest) earlier = do
     p ← field_pattern env e v first earlier

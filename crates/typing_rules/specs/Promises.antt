@@ -72,8 +72,8 @@ pub record ComesAfter (types : List Ty) (k : ℕ) (def : ClosureDef) : Type 0 wh
   pub before : ℕ
   pub within : before ≤ length types
   pub captures : (part : TyId) → Contains def.captures part → suc part.0 ≤ before
-  pub captured : (part : TyId) (j : ℕ) → Contains def.captures part → slice_get types part.0 ≡ Some (Ty.Closure j) → suc
-      j ≤ k
+  pub captured : (part : TyId) (j : ℕ) → Contains def.captures part → slice_get types part.0 ≡ Some (Ty.Closure j) →
+      suc j ≤ k
   pub lower : (n j : ℕ) (ty : Ty) (part : TyId) → suc n ≤ before → slice_get types n ≡ Some ty → Contains (made_of ty)
       part → slice_get types part.0 ≡ Some (Ty.Closure j) → suc j ≤ k
 
@@ -82,14 +82,14 @@ pub record AreReady (items : ItemTable) : Type 0 where
   pub begins : (n : ℕ) (ty : Ty) → slice_get scalars n ≡ Some ty → slice_get items.types n ≡ Some ty
   pub distinct : AreDistinct items.types
   -- the types in a type, behind boxes and references too, have lower numbers
-  pub parts_first : (id part : TyId) (ty : Ty) → type_at items id ≡ Some ty → Contains (types_in ty) part → suc part.0 ≤
-      id.0
-  pub held : (id part : TyId) (ty : Ty) → type_at items id ≡ Some ty → Contains (held_by items ty) part → IsAlone
-      items part
+  pub parts_first : (id part : TyId) (ty : Ty) → type_at items id ≡ Some ty → Contains (types_in ty) part →
+      suc part.0 ≤ id.0
+  pub held : (id part : TyId) (ty : Ty) → type_at items id ≡ Some ty → Contains (held_by items ty) part →
+      IsAlone items part
   pub parts : (id part : TyId) (variant n : ℕ) → field_ty items id variant n ≡ Some part → IsAlone items part
   pub held_fields : (n : ℕ) (part : TyId) → Contains (held_by items (Ty.Adt n)) part → IsAlone items part
-  pub fields : (n variant k : ℕ) (part : TyId) → slice_get (parts_of items (Ty.Adt n) variant) k ≡ Some part → IsAlone
-      items part
+  pub fields : (n variant k : ℕ) (part : TyId) → slice_get (parts_of items (Ty.Adt n) variant) k ≡ Some part →
+      IsAlone items part
   pub inside : (id to : TyId) → inside_of items id ≡ Some to → IsReady items to × IsTrue (not (is_reference items to))
   pub results : (n : ℕ) (sig : Sig) → slice_get items.bodies n ≡ Some sig → IsAlone items sig.result
   pub methods : (n k : ℕ) (def : TraitDef) (sig : Sig) → slice_get items.traits n ≡ Some def →
@@ -98,8 +98,8 @@ pub record AreReady (items : ItemTable) : Type 0 where
       IsKnown items ty
   pub method_params : (n k : ℕ) (def : TraitDef) (sig : Sig) (ty : TyId) → slice_get items.traits n ≡ Some def →
       slice_get def.methods k ≡ Some sig → Contains sig.params ty → IsKnown items ty
-  pub order : (n : ℕ) (ty : Ty) (part : TyId) → slice_get items.types n ≡ Some ty → Contains (made_of ty) part → suc
-      part.0 ≤ n
+  pub order : (n : ℕ) (ty : Ty) (part : TyId) → slice_get items.types n ≡ Some ty → Contains (made_of ty) part →
+      suc part.0 ≤ n
   pub after : (k : ℕ) (def : ClosureDef) → slice_get items.closures k ≡ Some def → ComesAfter items.types k def
 
 -- the head of a closure's body begins with the closure
@@ -117,8 +117,8 @@ IsBodyIn items body =
 
 -- a body that is whole: it is well typed among all later items
 abbrev pub IsWhole : ItemTable → BodyTree → Type 0
-IsWhole items body = (later : ItemTable) → Extends items later → AreReady later → AreClosures later → IsBodyIn later
-    body
+IsWhole items body = (later : ItemTable) → Extends items later → AreReady later → AreClosures later →
+    IsBodyIn later body
 
 -- the loops of all breaks so far have numbers that are given out, and what they carry has a type of values
 abbrev pub AreBreaks : TypingState → Type 0
@@ -178,8 +178,9 @@ Carries w l true = (b : ℕ × TyId) → Contains w.breaks b → b.0 ≡ l.loop 
 Carries w l false = IsTrue (is_unit w.items l.ty)
 
 abbrev pub IsAround : TypingState → TypingSpot → LabelledLoop → Type 0
-IsAround w p a = (l : LoopAround) × (loop_with a.loop p.loops ≡ Some l) × (l.loop ≡ a.loop) × (l.has_value ≡
-    a.has_value) × Carries w l a.has_value
+IsAround w p a =
+    (l : LoopAround) × (loop_with a.loop p.loops ≡ Some l) × (l.loop ≡ a.loop) × (l.has_value ≡ a.has_value) ×
+    Carries w l a.has_value
 
 -- a spot whose names and loops are those of an environment, among items whose closures have their heads
 pub record Stands (env : Env) (w : TypingState) (p : TypingSpot) : Type 0 where
@@ -203,10 +204,10 @@ is_plain_name name = not (list_any (λ byte. byte == 35) name)
 pub record KnowsItems (kinds : List (List FieldsKind)) (self_adt : Option ℕ) (items : ItemTable) : Type 0 where
   pub structs : (n : ℕ) (def : Adt) → slice_get items.adts n ≡ Some def → def.is_enum ≡ false → (v : Variant) ×
       (variant_at items n 0 ≡ Some v)
-  pub units : (n variant : ℕ) (v : Variant) → variant_at items n variant ≡ Some v → IsTrue (is_unit_kind (kind_at kinds
-      n variant)) → v.fields ≡ []
-  pub named : (n variant : ℕ) (v : Variant) → variant_at items n variant ≡ Some v → length v.field_names ≡ length
-      v.fields
+  pub units : (n variant : ℕ) (v : Variant) → variant_at items n variant ≡ Some v →
+      IsTrue (is_unit_kind (kind_at kinds n variant)) → v.fields ≡ []
+  pub named : (n variant : ℕ) (v : Variant) → variant_at items n variant ≡ Some v →
+      length v.field_names ≡ length v.fields
   pub self : (n : ℕ) → self_adt ≡ Some n → IsTrue (is_some (slice_get items.adts n))
   pub adts : (n : ℕ) (def : Adt) → slice_get items.adts n ≡ Some def → IsTrue (is_plain_name def.name)
   pub functions : (body : ℕ) (head : Sig) (self : TyId) (rest : List TyId) → slice_get items.bodies body ≡ Some head →
@@ -239,19 +240,20 @@ pub record IsBase (env : Env) (w : TypingState) (n : Node) : Type 0 where
   pub holds : (p : TypingSpot) → Stands env w p → Holds (typed (at_spot w.items env.answer p) Base n)
   pub moves : (p : TypingSpot) → Stands env w p → IsTrue (not (is_fixed w.items (in_own_guard env.variables) n)) →
       IsTrue (may_move (at_spot w.items env.answer p) n)
-  pub is_fixed : (v : TypingState) → Grows w v → is_fixed v.items (in_own_guard env.variables) n ≡ is_fixed w.items
-      (in_own_guard env.variables) n
+  pub is_fixed : (v : TypingState) → Grows w v →
+      is_fixed v.items (in_own_guard env.variables) n ≡ is_fixed w.items (in_own_guard env.variables) n
   pub is_shared : (v : TypingState) → Grows w v → is_shared_root v.items n ≡ is_shared_root w.items n
 
 -- ---- checks
 
 -- the check of a value gives what is well typed, whatever is required of it
 abbrev pub Sound : Env → Typer → Type 0
-Sound env check = (expected : Option TyId) (s : TypingState) → Knows env s → Gives s (IsValue env expected) (check expected s)
+Sound env check = (expected : Option TyId) (s : TypingState) → Knows env s →
+    Gives s (IsValue env expected) (check expected s)
 
 abbrev pub SoundTemporary : Env → Typer → Type 0
-SoundTemporary env check = (expected : Option TyId) (s : TypingState) → Knows env s → Gives s (IsTemporary env expected) (check
-    expected s)
+SoundTemporary env check = (expected : Option TyId) (s : TypingState) → Knows env s →
+    Gives s (IsTemporary env expected) (check expected s)
 
 abbrev pub SoundBase : Env → Check Node → Type 0
 SoundBase env check = (s : TypingState) → Knows env s → Gives s (IsBase env) (check s)
@@ -279,7 +281,8 @@ AreReadyTypes items [] = Unit {0}
 AreReadyTypes items (x ∷ xs) = IsReady items x.ty × AreReadyTypes items xs
 
 -- a pattern for a place of a type, with its bindings, whose numbers begin at one number
-pub record IsPattern (e : PatternContext) (ty : TyId) (n : ℕ) (w : TypingState) (b : Node × List NamedEntry) : Type 0 where
+pub record IsPattern (e : PatternContext) (ty : TyId) (n : ℕ) (w : TypingState) (b : Node × List NamedEntry) :
+    Type 0 where
   pub holds : (place : Matched) → place.takes_all ≡ e.takes_all → (IsTrue (not e.is_fixed) → IsTrue place.may_move) →
       Holds (pattern w.items place ty b.0)
   pub names : IsTrue (are_distinct (names_of b.0))
@@ -289,6 +292,5 @@ pub record IsPattern (e : PatternContext) (ty : TyId) (n : ℕ) (w : TypingState
 
 -- the check of a pattern gives what is well typed for each place of its type
 abbrev pub SoundMatcher : Matcher → Type 0
-SoundMatcher check = (e : PatternContext) (ty : TyId) (s : TypingState) → IsReady s.items ty → Gives s (IsPattern e ty
-    s.next_node) (check
-    e ty s)
+SoundMatcher check = (e : PatternContext) (ty : TyId) (s : TypingState) → IsReady s.items ty →
+    Gives s (IsPattern e ty s.next_node) (check e ty s)

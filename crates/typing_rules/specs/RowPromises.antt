@@ -32,9 +32,7 @@ pub record IsArgument (env : Env) (param : TyId) (w : TypingState) (n : Node) : 
 -- what is passed by reference, where the parameter is a reference
 abbrev pub SoundReferrer : Env → Referrer → Type 0
 SoundReferrer env by_reference = (param to : TyId) (unique : Bool) (s : TypingState) → Knows env s →
-    reference_of s.items
-    param
-    ≡ Some (unique, to) → Gives s (IsArgument env param) (by_reference param unique to s)
+    reference_of s.items param ≡ Some (unique, to) → Gives s (IsArgument env param) (by_reference param unique to s)
 
 -- arguments for parameters, and values past them
 abbrev pub AreGiven : Env → List TyId → TypingState → Nodes → Type 0
@@ -49,8 +47,7 @@ pub record IsGiven (env : Env) (params : List TyId) (count : ℕ) (w : TypingSta
 -- the checks of so many arguments
 abbrev pub SoundArgs : Env → ℕ → (List TyId → Check Nodes) → Type 0
 SoundArgs env count args = (params : List TyId) (s : TypingState) → Knows env s →
-    ((ty : TyId) → Contains params ty → IsKnown
-    s.items ty) → Gives s (IsGiven env params count) (args params s)
+    ((ty : TyId) → Contains params ty → IsKnown s.items ty) → Gives s (IsGiven env params count) (args params s)
 
 -- parts, each of the type beside it
 abbrev pub AreParts : Env → TypingState → Nodes → List TyId → Type 0
@@ -65,9 +62,8 @@ AreParts env w (a_node first rest) (ty ∷ tys) =
 -- the checks of parts, with the types that are required of them
 abbrev pub SoundParts : Env → (List (Option TyId) → Check (Nodes × List TyId)) → Type 0
 SoundParts env parts = (wants : List (Option TyId)) (s : TypingState) → Knows env s →
-    ((ty : TyId) → Contains wants (Some
-    ty) →
-    IsAlone s.items ty) → Gives s (λ w ps. AreParts env w ps.0 ps.1) (parts wants s)
+    ((ty : TyId) → Contains wants (Some ty) → IsAlone s.items ty) →
+    Gives s (λ w ps. AreParts env w ps.0 ps.1) (parts wants s)
 
 -- elements, each of its own type, and of the required one
 abbrev pub AreElements : Env → Option TyId → TypingState → Nodes → List TyId → Type 0
@@ -79,9 +75,7 @@ AreElements env expected w (a_node first rest) (ty ∷ tys) =
 
 abbrev pub SoundElements : Env → ℕ → (Option TyId → Check (Nodes × List TyId)) → Type 0
 SoundElements env count elements = (expected : Option TyId) (s : TypingState) → Knows env s →
-    Gives s (λ w ps. AreElements env
-    expected w
-    ps.0 ps.1 × (count_of ps.0 ≡ count)) (elements expected s)
+    Gives s (λ w ps. AreElements env expected w ps.0 ps.1 × (count_of ps.0 ≡ count)) (elements expected s)
 
 -- what a type is made of is ready
 pub record IsMade (items : ItemTable) (ty : Ty) : Type 0 where
@@ -95,7 +89,8 @@ IsMaybe env expected w absent = Unit {0}
 IsMaybe env expected w (present n) = IsValue env expected w n
 
 abbrev pub SoundMaybe : Env → (Option TyId → Check MaybeNode) → Type 0
-SoundMaybe env value = (expected : Option TyId) (s : TypingState) → Knows env s → Gives s (IsMaybe env expected) (value expected s)
+SoundMaybe env value = (expected : Option TyId) (s : TypingState) → Knows env s →
+    Gives s (IsMaybe env expected) (value expected s)
 
 -- a loop that is in scope
 abbrev pub IsLoopOf : Env → Option LabelledLoop → Type 0
@@ -119,9 +114,7 @@ SoundStatements env check = (s : TypingState) → Knows env s →
 -- a value that may be left out, where the names of another environment are known
 abbrev pub SoundTail : Env → (Env → Option TyId → Check MaybeNode) → Type 0
 SoundTail env tail = (inner : Env) → inner.answer ≡ env.answer → (expected : Option TyId) (s : TypingState) →
-    Knows inner s →
-    Gives s
-    (IsMaybe inner expected) (tail inner expected s)
+    Knows inner s → Gives s (IsMaybe inner expected) (tail inner expected s)
 
 -- one statement, in whose scope what is behind it stands
 pub record IsStatement (env : Env) (w : TypingState) (done : Node × Bool × Env) : Type 0 where
@@ -139,14 +132,14 @@ SoundStatement env check = (s : TypingState) → Knows env s → Gives s (λ w d
 
 -- a part that is found is a part of the type
 abbrev pub IsMember : Member (ℕ × TyId) → Type 0
-IsMember member = (items : ItemTable) (id : TyId) (f : ℕ × TyId) → member items id ≡ Some f → IsTrue (has_fields items
-    id) × (field_ty items id 0 f.0 ≡ Some f.1)
+IsMember member = (items : ItemTable) (id : TyId) (f : ℕ × TyId) → member items id ≡ Some f →
+    IsTrue (has_fields items id) × (field_ty items id 0 f.0 ≡ Some f.1)
 
 -- an arm for a place of a type: what it asks of its place, and the type of its body
-pub record IsArm (env : Env) (e : PatternContext) (ty : TyId) (expected : Option TyId) (w : TypingState) (n : Node) : Type 0 where
-  pub holds : (p : TypingSpot) → Stands env w p → (place : Matched) → place.takes_all ≡ e.takes_all → (IsTrue (not
-      e.is_fixed) →
-      IsTrue place.may_move) → Holds (arm (at_spot w.items env.answer p) place ty n)
+pub record IsArm (env : Env) (e : PatternContext) (ty : TyId) (expected : Option TyId) (w : TypingState) (n : Node) :
+    Type 0 where
+  pub holds : (p : TypingSpot) → Stands env w p → (place : Matched) → place.takes_all ≡ e.takes_all →
+      (IsTrue (not e.is_fixed) → IsTrue place.may_move) → Holds (arm (at_spot w.items env.answer p) place ty n)
   pub alone : IsAlone w.items (ty_of n)
   pub fit : IsTrue (agrees w.items expected (ty_of n))
 
@@ -162,14 +155,12 @@ AreArms env e ty expected w (a_node first rest) (t ∷ tys) =
 abbrev pub SoundArms : Env → (PatternContext → TyId → Option TyId → Check (Nodes × List TyId)) → Type 0
 SoundArms env arms = (e : PatternContext) (ty : TyId) (expected : Option TyId) (s : TypingState) → Knows env s →
     IsReady s.items ty →
-    Gives s
-    (λ w ns. AreArms env e ty expected w ns.0 ns.1 × IsTrue (nat_lt 0 (count_of ns.0))) (arms e ty expected s)
+    Gives s (λ w ns. AreArms env e ty expected w ns.0 ns.1 × IsTrue (nat_lt 0 (count_of ns.0))) (arms e ty expected s)
 
 -- a condition that may be left out
 abbrev pub SoundGuard : Env → (List NamedEntry → Check MaybeNode) → Type 0
 SoundGuard env guard = (xs : List NamedEntry) (s : TypingState) → Knows (with_variables (in_guard xs) env) s →
-    Gives s (IsMaybe
-    (with_variables (in_guard xs) env) (Some bool)) (guard xs s)
+    Gives s (IsMaybe (with_variables (in_guard xs) env) (Some bool)) (guard xs s)
 
 -- a body that is called by a name: its first parameter is no closure, as that of a closure's body is
 abbrev pub IsFunction : TypingState → ℕ → Sig → Type 0
@@ -178,12 +169,10 @@ IsFunction s body head = (slice_get s.items.bodies body ≡ Some head) × ((self
 
 -- what a type has of a name: a body that is called by it, or a method of a trait
 pub data IsMethodOf (s : TypingState) (own : TyId) : Method → Type 0 where
-  of_adt : {body : ℕ} {is_drop : Bool} {head : Sig} → slice_get s.items.bodies body ≡ Some head → is_drop ≡
-      is_drop_body s.items body →
-      IsMethodOf s own (OfAdt body is_drop head)
+  of_adt : {body : ℕ} {is_drop : Bool} {head : Sig} → slice_get s.items.bodies body ≡ Some head →
+      is_drop ≡ is_drop_body s.items body → IsMethodOf s own (OfAdt body is_drop head)
   of_trait : {trait_no method : ℕ} {head : Sig} (def : TraitDef) → slice_get s.items.traits trait_no ≡ Some def →
-      slice_get
-      def.methods method ≡ Some head → IsMethodOf s own (OfTrait trait_no method head)
+      slice_get def.methods method ≡ Some head → IsMethodOf s own (OfTrait trait_no method head)
 
 -- a type that is neither a reference nor a closure
 abbrev pub IsPlainType : ItemTable → TyId → Type 0
@@ -191,9 +180,8 @@ IsPlainType items own = (ty : Ty) × (type_at items own ≡ Some ty) × (referen
 
 -- what a look-up finds is a method of its type, which is neither a reference nor a closure
 abbrev pub FindsMethods : (ItemTable → TyId → Option Method) → Type 0
-FindsMethods named = (s : TypingState) (own : TyId) (m : Method) → named s.items own ≡ Some m → IsMethodOf s own m ×
-    IsPlainType
-    s.items own
+FindsMethods named = (s : TypingState) (own : TyId) (m : Method) → named s.items own ≡ Some m →
+    IsMethodOf s own m × IsPlainType s.items own
 
 -- what a `let` is given: one name takes a value, another pattern takes a place or a temporary apart
 pub record IsInParts (env : Env) (expected : Option TyId) (w : TypingState) (n : Node) : Type 0 where
@@ -208,8 +196,7 @@ IsInitialiser env false expected w (present n) = IsInParts env expected w n
 
 abbrev pub SoundInitialiser : Env → Bool → (Option TyId → Check MaybeNode) → Type 0
 SoundInitialiser env is_one_name value = (expected : Option TyId) (s : TypingState) → Knows env s →
-    Gives s (IsInitialiser env
-    is_one_name expected) (value expected s)
+    Gives s (IsInitialiser env is_one_name expected) (value expected s)
 
 -- a type that may be written
 abbrev pub SoundDeclared : Check (Option TyId) → Type 0
@@ -217,10 +204,8 @@ SoundDeclared check = (s : TypingState) → Gives s (λ w ty. (t : TyId) → ty 
 
 -- a pattern that is one name, or is none, from a state on
 abbrev pub SoundPattern : TypingState → Bool → Matcher → Type 0
-SoundPattern first is_one check = (e : PatternContext) (ty : TyId) (s : TypingState) → Grows first s → IsReady s.items ty →
-    Gives
-    s (λ w b.
-    IsPattern e ty s.next_node w b × (is_one_name b.0 ≡ is_one)) (check e ty s)
+SoundPattern first is_one check = (e : PatternContext) (ty : TyId) (s : TypingState) → Grows first s →
+    IsReady s.items ty → Gives s (λ w b. IsPattern e ty s.next_node w b × (is_one_name b.0 ≡ is_one)) (check e ty s)
 
 -- values for fields by their names, none known where there is no such field
 abbrev pub AreInits : Env → Variant → TypingState → Fields → Given → Type 0

@@ -449,8 +449,8 @@ abbrev pub is_unique_borrow : Form → Bool
 is_unique_borrow (tree.Borrow unique base) = unique
 is_unique_borrow _ = false
 
--- the node of a method's call, once its receiver and its arguments are checked: whether there are as many as parameters;
--- the receiver's place, and whether it is borrowed by `&mut` behind `&`; whether the method may be called
+-- the node of a method's call, once its receiver and its arguments are checked: whether there are as many as
+-- parameters; the receiver's place, and whether it is borrowed by `&mut` behind `&`; whether the method may be called
 abbrev pub method_call_end : ℕ → Pos → TyId → Form → Bool → Pos → Bool → Bool → Option TyId → Check Node
 method_call_end id at answer form is_count place is_refused may_be_called expected = do
   n ← fitted expected (a_node_of id at answer form)
@@ -790,7 +790,8 @@ match_end id at expected s arms tys = do
   ty ← known Rule.T03 at (one_type items tys)
   settled expected (a_node_of id at ty (tree.Match s arms))
 
-abbrev pub match_row : Env → Pos → Check Node → (PatternContext → TyId → Option TyId → Check (Nodes × List TyId)) → Typer
+abbrev pub match_row : Env → Pos → Check Node → (PatternContext → TyId → Option TyId → Check (Nodes × List TyId)) →
+    Typer
 match_row env at scrutinee arms expected = do
   id ← number
   s ← scrutinised scrutinee
@@ -801,7 +802,8 @@ match_row env at scrutinee arms expected = do
 -- ---- loops and jumps
 
 abbrev pub loop_around : Option Word → ℕ → Bool → Option TyId → LabelledLoop
-loop_around label id has_value expected = record { label = label; loop = id; has_value = has_value; expected = expected }
+loop_around label id has_value expected =
+    record { label = label; loop = id; has_value = has_value; expected = expected }
 
 abbrev pub loop_end : ℕ → Pos → Option TyId → Node → Check Node
 loop_end id at expected b = do

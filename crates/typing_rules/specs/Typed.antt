@@ -262,7 +262,8 @@ abbrev mutual
       params args)
   value env at (StructOf first second inits) = struct_of env at first second (λ v. typed_inits env v inits)
   value env at (TupleOf parts) = tuple at parts (λ wants. typed_parts env wants parts)
-  value env at (ArrayOf elements) = rows.array_row at (count_of elements) (λ expected. typed_elements env expected elements)
+  value env at (ArrayOf elements) =
+      rows.array_row at (count_of elements) (λ expected. typed_elements env expected elements)
   value env at (Braces statements tail) = rows.block at (typed_all env statements) (λ inner. typed_maybe inner tail)
   value env at (IfElse c body nothing) = rows.if_alone at (typed env c) (typed env body)
   value env at (IfElse c body (just otherwise)) = rows.if_else at (typed env c) (typed env body) (typed env otherwise)

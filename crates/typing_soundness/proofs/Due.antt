@@ -100,19 +100,13 @@ is_dots t e p = token_due (TokenKind.Mark Mark.DotDot) t (λ t. IsTrue (is_loose
 module _ (head : Bool) where
   due_end : (q : GrammarRest) (C : GrammarRow → Held → Type 0) → DuePart head q C → (r : GrammarRow) → made q ≡ Some r → C r end
   due_end (ends x) C d r e = let s : x ≡ r = cc in subst (λ x. C x end) s d
-  due_end (token k after) C d r e = none_is _ r e
   due_end (either k after other) C d r e = due_end other C d.1 r e
-  due_end (part p after) C d r e = none_is _ r e
   due_end (maybe p after x) C d r e = let s : x ≡ r = cc in subst (λ x. C x end) s d.0
-  due_end (list p later dots close after) C d r e = none_is _ r e
-  due_end (more p dots close after) C d r e = none_is _ r e
-  due_end (many p close after) C d r e = none_is _ r e
   due_end items C d r e = let s : GrammarRow.File ≡ r = cc in subst (λ x. C x end) s (d end tt)
   due_end alternatives C d r e = let s : GrammarRow.OrPattern ≡ r = cc in subst (λ x. C x end) s (d end tt)
-  due_end (statements o) C d r e = none_is _ r e
-  due_end (arms some) C d r e = none_is _ r e
   due_end arm_body C d r e = none_is _ r e
   due_end after_break C d r e = let s : GrammarRow.Break ≡ r = cc in subst (λ x. C x end) s d.0
+  due_end other C d r e = none_is _ r e
 
   -- behind a token
   abbrev Behind : (GrammarRow → Held → Type 0) → Token → GrammarRest → Type 0

@@ -37,18 +37,12 @@ module _ (items : ItemTable) (many : List ClosureDef) where
   row_same f g h (id ∷ ids) = λ i. h id i ∷ row_same f g h ids i
 
   form_same : (f g : TyId → List ℕ) → ((id : TyId) → f id ≡ g id) → (ty : Ty) → form_text items f ty ≡ form_text enough g ty
-  form_same f g h (Ty.Int kind) = refl
-  form_same f g h Ty.Bool = refl
-  form_same f g h Ty.Unit = refl
-  form_same f g h Ty.Never = refl
-  form_same f g h (Ty.Adt n) = refl
   form_same f g h (Ty.Tuple parts) = ap tuple_text (row_same f g h parts)
   form_same f g h (Ty.Array element count) = ap (λ (w : List ℕ). codes "[" ++ w ++ codes "; " ++ decimal count ++ codes "]") (h element)
   form_same f g h (Ty.Boxed inside) = ap (λ (w : List ℕ). codes "Box<" ++ w ++ codes ">") (h inside)
-  form_same f g h (Ty.Dyn n) = refl
   form_same f g h (Ty.Shared to) = ap (λ (w : List ℕ). codes "&" ++ w) (h to)
   form_same f g h (Ty.Unique to) = ap (λ (w : List ℕ). codes "&mut " ++ w) (h to)
-  form_same f g h (Ty.Closure n) = refl
+  form_same f g h other = refl
 
   within_same : (d : ℕ) (id : TyId) → type_within items d id ≡ type_within enough d id
   within_same zero id = refl

@@ -463,21 +463,7 @@ module _ (setting : Setting) (run run' : Bodies) (spending : Spending run) (n : 
       after_taken_same n (evaluate_operands setting args w) (λ values w. called setting run to (virtual_body setting trait_no method w values) values w)
       (λ values w. called setting run' to (virtual_body setting trait_no method w values) values w) w (all_taken_less n setting args w l)
       (λ values v k. called_same to (virtual_body setting trait_no method v values) values v k)
-  acted_same (effects.Put to from) w l = refl
-  acted_same (effects.Compare to operator left right) w l = refl
-  acted_same (effects.Not to operand) w l = refl
-  acted_same (effects.Build to kind parts) w l = refl
-  acted_same (effects.NewBox to content) w l = refl
-  acted_same (effects.Unsize to trait_no operand) w l = refl
-  acted_same (effects.Borrow to unique base) w l = refl
-  acted_same (effects.Touch base) w l = refl
-  acted_same (effects.Print operand) w l = refl
-  acted_same (effects.Forget operand) w l = refl
-  acted_same (effects.Free box) w l = refl
-  acted_same (effects.Compute to operator left right) w l = refl
-  acted_same (effects.Negate to operand) w l = refl
-  acted_same (effects.Bounds index count) w l = refl
-  acted_same (effects.Ask to) w l = refl
+  acted_same other w l = refl
 
   act_same : (action : Action) (w : State) → w.ticks ≤ n → act setting run action w ≡ act setting run' action w
   act_same action w l =

@@ -30,12 +30,7 @@ node_count-Parts variant serial values = ap node_count (datum_of-Parts variant s
 
 pub node_count-positive : (datum : Datum) → 1 ≤ node_count datum
 node_count-positive Gone = omega arith
-node_count-positive (Number number) = omega arith
-node_count-positive (Truth truth) = omega arith
-node_count-positive UnitValue = omega arith
-node_count-positive (Aggregate variant serial parts) = omega arith
-node_count-positive (Box serial impl_no inside) = omega arith
-node_count-positive (Address address) = omega arith
+node_count-positive other = omega arith
 
 -- a box gives way to its content
 pub IsNearerEnd-Boxed : (self : Value) (serial : ℕ) (impl_no : Option ℕ) (inside : TheBox Value Global) (waiting : Option (List Value)) (rest : Value × Option (List Value)) → self ≡ Boxed serial impl_no inside →

@@ -35,11 +35,7 @@ use Rattle.typing_rules.proofs.Sound.Places.{variable_base, deref_base, truth_of
 
 use_self : (by : Use) → IsTrue (is_by by (Some by))
 use_self Use.Move = refl
-use_self Use.Copy = refl
-use_self Use.Borrow = refl
-use_self Use.BorrowMut = refl
-use_self Use.Test = refl
-use_self Use.Store = refl
+use_self other = refl
 
 pub used_holds : (c : Context) (by : Use) (n : Node) → Holds (typed c Base n) → IsTrue (not (is_reference c.items (ty_of
     n))) → Holds (typed c (Used by) (used_if_place by n))

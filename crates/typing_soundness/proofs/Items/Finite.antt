@@ -328,14 +328,7 @@ module _ (items later : ItemTable) (extends : Extends items later) (ready : AreR
       before h t.0 t.1 t.2 (let a = size_within x h (Ty.Array element n) at has in omega (arith, a, big)) (let a =
       ready.order x.0 (Ty.Array element n) h at has in omega (arith, a, below)))
   step m i less before x (Ty.Closure n) at plain big below = absurd (none-some n (sym plain))
-  step m i less before x (Ty.Int kind) at plain big below = nothing_held x (Ty.Int kind) at refl
-  step m i less before x Ty.Bool at plain big below = nothing_held x Ty.Bool at refl
-  step m i less before x Ty.Unit at plain big below = nothing_held x Ty.Unit at refl
-  step m i less before x Ty.Never at plain big below = nothing_held x Ty.Never at refl
-  step m i less before x (Ty.Boxed inside) at plain big below = nothing_held x (Ty.Boxed inside) at refl
-  step m i less before x (Ty.Dyn n) at plain big below = nothing_held x (Ty.Dyn n) at refl
-  step m i less before x (Ty.Shared to) at plain big below = nothing_held x (Ty.Shared to) at refl
-  step m i less before x (Ty.Unique to) at plain big below = nothing_held x (Ty.Unique to) at refl
+  step m i less before x other at plain big below = nothing_held x other at refl
 
   finite_to : (m i : ℕ) → AreFiniteTo m i
   finite_to zero i x ty at plain big below = absurd (omega (arith, big))
@@ -386,17 +379,7 @@ module _ (items : ItemTable) (ready : AreReady items) (adts : (x : TyId) (n : �
 
           by : (t : Ty) → type_at items h ≡ Some t → IsFiniteType h
           by (Ty.Closure j) is = lower h j is (let a = made x.0 j ty h first at has is in omega (arith, a))
-          by (Ty.Adt n) is = plain (Ty.Adt n) is refl
-          by (Ty.Tuple parts) is = plain (Ty.Tuple parts) is refl
-          by (Ty.Array element n) is = plain (Ty.Array element n) is refl
-          by (Ty.Int kind) is = plain (Ty.Int kind) is refl
-          by Ty.Bool is = plain Ty.Bool is refl
-          by Ty.Unit is = plain Ty.Unit is refl
-          by Ty.Never is = plain Ty.Never is refl
-          by (Ty.Boxed inside) is = plain (Ty.Boxed inside) is refl
-          by (Ty.Dyn n) is = plain (Ty.Dyn n) is refl
-          by (Ty.Shared to) is = plain (Ty.Shared to) is refl
-          by (Ty.Unique to) is = plain (Ty.Unique to) is refl
+          by other is = plain other is refl
 
       low_to : (i : ℕ) → i ≤ before → IsLow i
       low_to zero within x ty at below plain = absurd (omega (arith, below))
@@ -413,14 +396,7 @@ module _ (items : ItemTable) (ready : AreReady items) (adts : (x : TyId) (n : �
               finite_by items x (Ty.Array element n) at (a_part i (omega (arith, within)) low x (Ty.Array element n) at (omega
               (arith, below)) (omega (arith, below, within)))
           by (Ty.Closure n) at plain low = absurd (none-some n (sym plain))
-          by (Ty.Int kind) at plain low = bare x (Ty.Int kind) at refl
-          by Ty.Bool at plain low = bare x Ty.Bool at refl
-          by Ty.Unit at plain low = bare x Ty.Unit at refl
-          by Ty.Never at plain low = bare x Ty.Never at refl
-          by (Ty.Boxed inside) at plain low = bare x (Ty.Boxed inside) at refl
-          by (Ty.Dyn n) at plain low = bare x (Ty.Dyn n) at refl
-          by (Ty.Shared to) at plain low = bare x (Ty.Shared to) at refl
-          by (Ty.Unique to) at plain low = bare x (Ty.Unique to) at refl
+          by other at plain low = bare x other at refl
 
   -- a closure is finite where those of lower numbers are
   one_closure : (k : ℕ) → AreClosuresTo k → (x : TyId) → type_at items x ≡ Some (Ty.Closure k) → IsFiniteType x
@@ -444,17 +420,7 @@ module _ (items : ItemTable) (ready : AreReady items) (adts : (x : TyId) (n : �
 
               one : (t : Ty) → type_at items h ≡ Some t → IsFiniteType h
               one (Ty.Closure j) is = lower h j is (let a = after.captured h j has is in omega (arith, a))
-              one (Ty.Adt n) is = plain (Ty.Adt n) is refl
-              one (Ty.Tuple parts) is = plain (Ty.Tuple parts) is refl
-              one (Ty.Array element n) is = plain (Ty.Array element n) is refl
-              one (Ty.Int kind) is = plain (Ty.Int kind) is refl
-              one Ty.Bool is = plain Ty.Bool is refl
-              one Ty.Unit is = plain Ty.Unit is refl
-              one Ty.Never is = plain Ty.Never is refl
-              one (Ty.Boxed inside) is = plain (Ty.Boxed inside) is refl
-              one (Ty.Dyn n) is = plain (Ty.Dyn n) is refl
-              one (Ty.Shared to) is = plain (Ty.Shared to) is refl
-              one (Ty.Unique to) is = plain (Ty.Unique to) is refl
+              one other is = plain other is refl
 
   closures_to : (k : ℕ) → AreClosuresTo k
   closures_to zero x j at below = absurd (omega (arith, below))
@@ -479,14 +445,7 @@ module _ (items : ItemTable) (ready : AreReady items) (adts : (x : TyId) (n : �
       by (Ty.Tuple parts) at on = finite_by items x (Ty.Tuple parts) at (a_held (Ty.Tuple parts) at on)
       by (Ty.Array element n) at on = finite_by items x (Ty.Array element n) at (a_held (Ty.Array element n) at on)
       by (Ty.Closure k) at on = closures_to (suc k) x k at (omega arith)
-      by (Ty.Int kind) at on = bare x (Ty.Int kind) at refl
-      by Ty.Bool at on = bare x Ty.Bool at refl
-      by Ty.Unit at on = bare x Ty.Unit at refl
-      by Ty.Never at on = bare x Ty.Never at refl
-      by (Ty.Boxed inside) at on = bare x (Ty.Boxed inside) at refl
-      by (Ty.Dyn n) at on = bare x (Ty.Dyn n) at refl
-      by (Ty.Shared to) at on = bare x (Ty.Shared to) at refl
-      by (Ty.Unique to) at on = bare x (Ty.Unique to) at refl
+      by other at on = bare x other at refl
 
 -- ---- the whole
 

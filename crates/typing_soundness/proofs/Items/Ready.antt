@@ -325,35 +325,18 @@ module _ (items : ItemTable) (adt : Adt) (all : AreReady items) (h : AreFields i
       held_of : (ty : Ty) (id part : TyId) → type_at items id ≡ Some ty → Contains (held_by (with_adt items adt) ty) part →
           IsAlone items part
       held_of (Ty.Adt n) id part at has = held_in n part has
-      held_of (Ty.Int kind) id part at has = all.held id part (Ty.Int kind) at has
-      held_of Ty.Bool id part at has = all.held id part Ty.Bool at has
-      held_of Ty.Unit id part at has = all.held id part Ty.Unit at has
-      held_of Ty.Never id part at has = all.held id part Ty.Never at has
-      held_of (Ty.Tuple tys) id part at has = all.held id part (Ty.Tuple tys) at has
-      held_of (Ty.Array element count) id part at has = all.held id part (Ty.Array element count) at has
-      held_of (Ty.Boxed inside) id part at has = all.held id part (Ty.Boxed inside) at has
-      held_of (Ty.Dyn n) id part at has = all.held id part (Ty.Dyn n) at has
-      held_of (Ty.Shared to) id part at has = all.held id part (Ty.Shared to) at has
-      held_of (Ty.Unique to) id part at has = all.held id part (Ty.Unique to) at has
-      held_of (Ty.Closure n) id part at has = all.held id part (Ty.Closure n) at has
+      held_of other id part at has = all.held id part other at has
 
       part_of : (ty : Ty) (id part : TyId) (variant n : ℕ) → type_at items id ≡ Some ty → slice_get (parts_of (with_adt
           items adt) ty variant) n ≡ Some part → IsAlone items part
       part_of (Ty.Adt k) id part variant n at is = field_in k variant n part is
-      part_of (Ty.Int kind) id part variant n at is = absurd (none-some part is)
-      part_of Ty.Bool id part variant n at is = absurd (none-some part is)
-      part_of Ty.Unit id part variant n at is = absurd (none-some part is)
-      part_of Ty.Never id part variant n at is = absurd (none-some part is)
       part_of (Ty.Tuple tys) id part variant n at is =
           all.parts id part variant n (ap (λ o. option_and_then (λ ty. slice_get (parts_of items ty variant) n) o) at ∙ is)
       part_of (Ty.Array element count) id part variant n at is =
           all.parts id part variant n (ap (λ o. option_and_then (λ ty. slice_get (parts_of items ty variant) n) o) at ∙ is)
-      part_of (Ty.Boxed inside) id part variant n at is = absurd (none-some part is)
-      part_of (Ty.Dyn k) id part variant n at is = absurd (none-some part is)
-      part_of (Ty.Shared to) id part variant n at is = absurd (none-some part is)
-      part_of (Ty.Unique to) id part variant n at is = absurd (none-some part is)
       part_of (Ty.Closure k) id part variant n at is =
           all.parts id part variant n (ap (λ o. option_and_then (λ ty. slice_get (parts_of items ty variant) n) o) at ∙ is)
+      part_of other id part variant n at is = absurd (none-some part is)
 
       parts_at : (id part : TyId) (variant n : ℕ) (o : Option Ty) → type_at items id ≡ o → option_and_then (λ ty. slice_get
           (parts_of (with_adt items adt) ty variant) n) o ≡ Some part → IsAlone items part

@@ -35,11 +35,6 @@ module _ (f : ℕ → ℕ) where
     of_node (node id at ty by form) = ap (λ xs. node (f id) at ty by (form_renumbered f form) ∷ xs) (in_form form)
 
     in_form : (form : Form) → nodes_in (form_renumbered f form) ≡ map (renumbered f) (nodes_in form)
-    in_form (Number value) = refl
-    in_form (Truth value) = refl
-    in_form UnitValue = refl
-    in_form (Variable key) = refl
-    in_form (Captured closure part name) = refl
     in_form (Field base part) = of_node base
     in_form (Index base index length) = join (nodes_of base) (nodes_of index) (of_node base) (of_node index)
     in_form (Deref base) = of_node base
@@ -60,10 +55,8 @@ module _ (f : ℕ → ℕ) where
     in_form (Closure closure captures) = among captures
     in_form (NewBox content) = of_node content
     in_form (Print operand) = of_node operand
-    in_form Ask = refl
     in_form (DropValue operand) = of_node operand
     in_form (Forget operand) = of_node operand
-    in_form Panic = refl
     in_form (Borrow unique base) = of_node base
     in_form (Unsize trait_no operand) = of_node operand
     in_form (Block statements tail) = join (nodes_among statements) (nodes_if_any tail) (among statements) (if_any tail)
@@ -77,17 +70,13 @@ module _ (f : ℕ → ℕ) where
     in_form (While condition body) = join (nodes_of condition) (nodes_of body) (of_node condition) (of_node body)
     in_form (WhileLet pattern scrutinee body) = join ((nodes_of pattern) ++ nodes_of scrutinee) (nodes_of body) (join (nodes_of pattern) (nodes_of scrutinee) (of_node pattern) (of_node scrutinee)) (of_node body)
     in_form (Break from value) = if_any value
-    in_form (Continue from) = refl
     in_form (Return value) = if_any value
-    in_form Wildcard = refl
-    in_form (Binding name) = refl
-    in_form (NumberPattern value) = refl
-    in_form (TruthPattern value) = refl
     in_form (StructPattern fields) = of_fields fields
     in_form (VariantPattern variant is_test fields) = of_fields fields
     in_form (TuplePattern parts) = among parts
     in_form (ArrayPattern elements) = among elements
     in_form (OrPattern alternatives) = among alternatives
+    in_form other = refl
 
     among : (ns : Nodes) → nodes_among (nodes_renumbered f ns) ≡ map (renumbered f) (nodes_among ns)
     among no_node = refl

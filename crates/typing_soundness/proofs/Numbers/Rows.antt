@@ -109,11 +109,6 @@ module _ (f : ℕ → ℕ) where
     where
       by_form : (form : Form) → is_leaf (form_renumbered f form) ≡ is_leaf form
       by_form (Block statements tail) = refl
-      by_form (If condition body otherwise) = refl
-      by_form (IfLet pattern scrutinee body otherwise) = refl
-      by_form (Match scrutinee arms) = refl
-      by_form (Loop body) = refl
-      by_form (Unsize trait_no operand) = refl
       by_form _ = refl
 
   variable_on : (n : Node) → is_variable (form_of (renumbered f n)) ≡ is_variable (form_of n)

@@ -245,16 +245,9 @@ module _ (s : TypingState) (env : Env) (k : KnowsItems env.kinds env.self_adt s.
       by None e = adt (adt_named s.items name) refl
 
   no_callee_is : (c : Callee) → IsCallee c → IsCallee (looks.or_no_callee c)
-  no_callee_is (Unnamed rule) h = tt
   no_callee_is (Function body is_drop head) h = h
   no_callee_is (Constructor adt variant tys) h = h
-  no_callee_is Prints h = tt
-  no_callee_is Asks h = tt
-  no_callee_is Drops h = tt
-  no_callee_is Forgets h = tt
-  no_callee_is Boxes h = tt
-  no_callee_is AValue h = tt
-  no_callee_is NoCallee h = tt
+  no_callee_is other h = tt
 
   variable_is : (name : Word) → IsTrue (is_plain_name name) → (x : Option NamedEntry) → IsCallee (looks.variable_callee
       s.items env name x)

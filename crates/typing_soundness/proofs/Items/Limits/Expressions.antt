@@ -137,16 +137,8 @@ module _ (b : Bounds) where
     body_is name None = adt_is name (adt_named items name) refl
 
     none_else : (c : Callee) → IsCallee c → IsCallee (names.or_no_callee c)
-    none_else (Unnamed rule) p = tt
     none_else (Constructor adt variant tys) p = p
-    none_else (Function body is_drop head) p = tt
-    none_else Prints p = tt
-    none_else Asks p = tt
-    none_else Drops p = tt
-    none_else Forgets p = tt
-    none_else Boxes p = tt
-    none_else AValue p = tt
-    none_else NoCallee p = tt
+    none_else other p = tt
 
     variable_is : (name : Word) (o : Option NamedEntry) → IsCallee (names.variable_callee items env name o)
     variable_is name None = body_is name (body_named items name)
