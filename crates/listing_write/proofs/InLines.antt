@@ -29,18 +29,12 @@ module _ (items : ItemTable) where
   row_texts inner f h (id ∷ ids) = λ i. h id i ∷ row_texts inner f h ids i
 
   form_same : (inner : TyId → Tree) (f : TyId → List ℕ) → ((id : TyId) → tree_text (inner id) ≡ f id) → (ty : Ty) → tree_text (form_tree items inner ty) ≡ form_text items f ty
-  form_same inner f h (Ty.Int kind) = refl
-  form_same inner f h Ty.Bool = refl
-  form_same inner f h Ty.Unit = refl
-  form_same inner f h Ty.Never = refl
-  form_same inner f h (Ty.Adt n) = refl
   form_same inner f h (Ty.Tuple parts) = ap tuple_text (row_texts inner f h parts)
   form_same inner f h (Ty.Array element count) = ap (λ (w : List ℕ). codes "[" ++ w ++ codes "; " ++ decimal count ++ codes "]") (h element)
   form_same inner f h (Ty.Boxed inside) = ap (λ (w : List ℕ). codes "Box<" ++ w ++ codes ">") (h inside)
-  form_same inner f h (Ty.Dyn n) = refl
   form_same inner f h (Ty.Shared to) = ap (λ (w : List ℕ). codes "&" ++ w) (h to)
   form_same inner f h (Ty.Unique to) = ap (λ (w : List ℕ). codes "&mut " ++ w) (h to)
-  form_same inner f h (Ty.Closure n) = refl
+  form_same inner f h other = refl
 
   found_same : (inner : TyId → Tree) (f : TyId → List ℕ) → ((id : TyId) → tree_text (inner id) ≡ f id) → (o : Option Ty) → tree_text (found_tree items inner o) ≡ found_text items f o
   found_same inner f h None = refl

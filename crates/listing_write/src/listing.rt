@@ -14,7 +14,7 @@ use crate::items::put_items;
 use crate::parts::{put_operand, put_place};
 use crate::statements::{put_stmt, put_term};
 use crate::types::put_type;
-use crate::words::{put, put_number, word_of_kind};
+use crate::words::{put, put_kind, put_number};
 use cfg_graph::{Block, Body, Graph, Operand, Place, Stmt, Term};
 use mir_base::{List, NoMemory};
 use mir_ty::{Items, TyId};
@@ -92,9 +92,7 @@ fn put_block_line(out: &mut String, n: usize, block: &Block) -> Result<(), Alloc
 {
     put(out, "block ")?;
     put_number(out, n as u32)?;
-    put(out, " ")?;
-    put(out, word_of_kind(block.kind))?;
-    put(out, " rank ")?;
+    put_kind(out, block.kind)?;
     put_number(out, block.rank)?;
     put(out, "\n")
 }
@@ -149,6 +147,24 @@ fn put_listing(out: &mut String, graph: &Graph) -> Result<(), AllocError>
     put(out, "end\n")
 }
 
+/// How many lines a body has, but for its own.
+fn lines_of(body: &Body) -> usize {
+    let mut lines = body.locals.len();
+    for block in body.blocks.as_slice() {
+        lines = lines.saturating_add(block.stmts.len()).saturating_add(2);
+    }
+    lines
+}
+
+/// How many bytes of room a listing begins with: 40 a line, more than most have. A longer one grows.
+fn room_of(graph: &Graph) -> usize {
+    let mut lines: usize = 0;
+    for body in graph.bodies.as_slice() {
+        lines = lines.saturating_add(lines_of(body));
+    }
+    lines.saturating_mul(40)
+}
+
 /// The listing of a graph: its items, bodies, locals and blocks in lines, each of which ends by a line feed. Each list
 /// of the graph has fewer than 4,294,967,295 members. Names are in UTF-8, so the listing is.
 pub fn write_listing(alloc: Global, graph: &Graph) -> Result<List<u8>, NoMemory>
@@ -156,7 +172,7 @@ pub fn write_listing(alloc: Global, graph: &Graph) -> Result<List<u8>, NoMemory>
     ensures listed { IfOk result (λ text. text ≡ listing graph.now) }
     ensures in_utf8 { IfOk result IsUtf8 }
 {
-    let mut out = String::new(alloc);
+    let mut out = String::with_capacity(alloc, room_of(graph))?;
     put_listing(&mut out, graph)?;
     Ok(List::from_vec(out.into_bytes()))
 }

@@ -1,4 +1,4 @@
-ghost use Rattle.std.specs.Prelude.{◌≡◌, ◌++◌, IfSome, OnOk};
+ghost use Rattle.std.specs.Prelude.{◌≡◌, ◌<◌, ◌+◌, ◌/◌, ◌%◌, [], ◌∷◌, ◌++◌, OnOk, codes};
 ghost use Rattle.std.specs.Fmt.{decimal, signed_decimal};
 ghost use Rattle.std.specs.String.{string_bytes};
 ghost use Rattle.mir_base.specs.Lines.{why_word};
@@ -18,31 +18,46 @@ pub fn put(out: &mut String, word: &str) -> Result<(), AllocError>
     out.push_str(word)
 }
 
-/// What is written of a number of one digit. Steps of places and numbers of variants are such numbers for the most part.
-fn digit(number: u32) -> Option<&'static str>
-    ensures { IfSome result (λ word. word.now ≡ decimal number) }
+/// Puts a digit behind a text.
+fn put_digit(out: &mut String, digit: u32) -> Result<(), AllocError>
+    requires { digit < 10 }
+    ensures { OnOk result (string_bytes out.new ≡ string_bytes out.old ++ (48 + digit) ∷ []) }
 {
-    match number {
-        0 => Some("0"),
-        1 => Some("1"),
-        2 => Some("2"),
-        3 => Some("3"),
-        4 => Some("4"),
-        5 => Some("5"),
-        6 => Some("6"),
-        7 => Some("7"),
-        8 => Some("8"),
-        9 => Some("9"),
-        _ => None,
+    out.push((b'0' + digit as u8) as char)
+}
+
+/// Puts two digits behind a text.
+fn put_pair(out: &mut String, pair: u32) -> Result<(), AllocError>
+    requires { pair < 100 }
+    ensures { OnOk result (string_bytes out.new ≡ string_bytes out.old ++ (48 + pair / 10) ∷ (48 + pair % 10) ∷ []) }
+{
+    put_digit(out, pair / 10)?;
+    put_digit(out, pair % 10)
+}
+
+/// Puts a number of one or two digits behind a text.
+fn put_first(out: &mut String, number: u32) -> Result<(), AllocError>
+    requires { number < 100 }
+    ensures { OnOk result (string_bytes out.new ≡ string_bytes out.old ++ decimal number) }
+{
+    if number < 10 {
+        put_digit(out, number)
+    } else {
+        put_pair(out, number)
     }
 }
 
-/// Puts a number behind a text.
+/// Puts a number behind a text. Most numbers of blocks, locals and steps have at most four digits, which are put there one
+/// by one.
 pub fn put_number(out: &mut String, number: u32) -> Result<(), AllocError>
     ensures { OnOk result (string_bytes out.new ≡ string_bytes out.old ++ decimal number) }
 {
-    if let Some(word) = digit(number) {
-        return put(out, word);
+    if number < 100 {
+        return put_first(out, number);
+    }
+    if number < 10_000 {
+        put_first(out, number / 100)?;
+        return put_pair(out, number % 100);
     }
     let mut buffer = Buffer::new();
     out.push_str(buffer.format(number))
@@ -106,13 +121,14 @@ pub fn word_of_why(why: Why) -> &'static str
     }
 }
 
-pub fn word_of_kind(kind: Kind) -> &'static str
-    ensures { result.now ≡ kind_word kind }
+/// Puts the kind of a block behind a text, and the word before its rank.
+pub fn put_kind(out: &mut String, kind: Kind) -> Result<(), AllocError>
+    ensures { OnOk result (string_bytes out.new ≡ string_bytes out.old ++ (codes " " ++ kind_word kind ++ codes " rank ")) }
 {
     match kind {
-        Kind::Plain => "plain",
-        Kind::Turn => "turn",
-        Kind::Cleanup => "cleanup",
+        Kind::Plain => put(out, " plain rank "),
+        Kind::Turn => put(out, " turn rank "),
+        Kind::Cleanup => put(out, " cleanup rank "),
     }
 }
 

@@ -89,11 +89,7 @@ module _ (adt_no trait_no : List ℕ → ℕ) where
       where
         compared : (op : Cmp) (t : List ℕ) → assigned adt_no trait_no to (comparison_text op ++ (codes " " ++ t)) ≡ as_ (λ (both : Operand × Operand). Stmt.Compare to op both.0 both.1) (two_operands t)
         compared Cmp.Eq t = refl
-        compared Cmp.Ne t = refl
-        compared Cmp.Lt t = refl
-        compared Cmp.Le t = refl
-        compared Cmp.Gt t = refl
-        compared Cmp.Ge t = refl
+        compared other t = refl
     stmt_reads (Stmt.Not to operand) fits named r =
         ap (stmt_read adt_no trait_no) (behind3 (place_text to) (codes " = not ") (operand_text operand) (10 ∷ r))
         ∙ stored to (codes "not " ++ (operand_text operand ++ (10 ∷ r))) (Stmt.Not to operand, 10 ∷ r) fits.0
@@ -153,11 +149,7 @@ module _ (adt_no trait_no : List ℕ → ℕ) where
 
   why_reads : (why : Why) (r : List ℕ) → why_read (why_word why ++ r) ≡ Some (why, r)
   why_reads Why.Explicit r = refl
-  why_reads Why.Overflow r = refl
-  why_reads Why.Divide r = refl
-  why_reads Why.Index r = refl
-  why_reads Why.Ask r = refl
-  why_reads Why.Match r = refl
+  why_reads other r = refl
 
   module _ (items : ItemTable)
       (traits : (n : ℕ) → nat_lt n (length items.traits) ≡ true → (list_all stands_in_names (trait_name items n) ≡ true) × (trait_no (trait_name items n) ≡ n)) where

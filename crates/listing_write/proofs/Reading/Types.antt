@@ -234,24 +234,16 @@ module _ (items : ItemTable)
       (closed : (t : List ℕ) → read (codes ")" ++ t) ≡ None) (brace : (t : List ℕ) → read (codes "}" ++ t) ≡ None) where
     -- a type that is written with `&` is not read as one with `&mut `
     no_mut : (ty : Ty) → own_number_exists items ty ≡ true → (r : List ℕ) → closes r ≡ true → bind (strip (codes "mut ") (form_text items inner ty ++ r)) read ≡ None
+    no_mut (Ty.Adt n) own r e = no_word read brace (codes "mut") (adt_name items n) r refl (name_stands (adt_name items n) (adt_name_stands (adt_name items n) (adts n own)).0).1 e
     no_mut (Ty.Int IntKind.I32) own r e = refl
     no_mut (Ty.Int IntKind.I64) own r e = refl
     no_mut (Ty.Int IntKind.U32) own r e = refl
     no_mut (Ty.Int IntKind.U64) own r e = refl
     no_mut (Ty.Int IntKind.Usize) own r e = refl
-    no_mut Ty.Bool own r e = refl
-    no_mut Ty.Unit own r e = refl
-    no_mut Ty.Never own r e = refl
-    no_mut (Ty.Adt n) own r e = no_word read brace (codes "mut") (adt_name items n) r refl (name_stands (adt_name items n) (adt_name_stands (adt_name items n) (adts n own)).0).1 e
     no_mut (Ty.Tuple []) own r e = refl
     no_mut (Ty.Tuple (part ∷ [])) own r e = refl
     no_mut (Ty.Tuple (part ∷ next ∷ parts)) own r e = refl
-    no_mut (Ty.Array element count) own r e = refl
-    no_mut (Ty.Boxed inside) own r e = refl
-    no_mut (Ty.Dyn n) own r e = refl
-    no_mut (Ty.Shared to) own r e = refl
-    no_mut (Ty.Unique to) own r e = refl
-    no_mut (Ty.Closure n) own r e = refl
+    no_mut other own r e = refl
 
     module _ (one : (id : TyId) → Good id → (r : List ℕ) → closes r ≡ true → read (inner id ++ r) ≡ Some (inner id, r))
         (unmut : (id : TyId) → Good id → (r : List ℕ) → closes r ≡ true → bind (strip (codes "mut ") (inner id ++ r)) read ≡ None) where
