@@ -1,7 +1,5 @@
 pub mod Answered
-pub mod Drawings
 pub mod Explanations
 pub mod Sentences
-pub mod Snippets
-pub mod Ways
+pub mod Traces
 pub mod Words

@@ -1,15 +1,14 @@
-//! What helps people to read what `mirdrop` answers: a refusal with the line of the text that it is about, and a graph
-//! as a picture.
+//! What helps people to read what `mirdrop` answers: a refusal with the line of the text that it is about, a graph as a
+//! picture, and a run with the place of each of its steps.
 #![tactic(auto)]
 
 mod answers;
-mod drawings;
 mod explanations;
 mod look;
 mod sentences;
-mod snippets;
-mod texts;
+mod traces;
 
 pub use answers::{Answer, answer_text};
-pub use drawings::draw;
-pub use look::{Look, look_of};
+pub use look::{Look, look_of, trace_of};
+pub use mirdrop_program::{Request, WordsError};
+pub use traces::trace_text;

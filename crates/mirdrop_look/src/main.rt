@@ -1,7 +1,9 @@
 //! The program `mirdrop_look`: it answers the text of the standard input, for people to read.
 #![tactic(auto)]
 
-use look_program::{Answer, Look, answer_text, look_of};
+ghost use Rattle.std.specs.Prelude.{◌≤◌};
+
+use look_program::{Answer, Look, Request, WordsError, answer_text, look_of, trace_of, trace_text};
 use mir_base::NoMemory;
 use mir_base::limits::MAX_TEXT_BYTES;
 use mir_edge::{ReadAllError, Sink, StdSink, StdSource, read_all, write_whole};
@@ -14,6 +16,9 @@ const USAGE: &[u8] = b"mirdrop_look WORD < FILE
 
   explain   why a program or a listing is refused, with the line that it is about
   dot       its graph, as Graphviz reads it: mirdrop_look dot < FILE | dot -Tsvg
+  dot-built the graph with exact drops of a program, with its drop flags and ladders marked
+  trace     a run of a program, each line with the place that made it and what is alive then;
+            numbers for ask() and --ticks N may follow, as behind mirdrop run
   --help    this page
 
 Status: 0 done, 1 the text is refused, 2 other words, 3 the input failed, 4 the output failed, 5 out of memory,
@@ -45,15 +50,51 @@ fn write_answer<K: Sink>(sink: &mut K, answer: Result<Answer, NoMemory>) -> u8 {
     }
 }
 
+/// Traces a run of the text of the standard input, with at most 1,000,000,000 ticks.
+fn trace_input(rt: &HostRuntime, request: &Request) -> u8
+    requires { request.now.ticks ≤ 1000000000 }
+{
+    let mut source = StdSource::new(rt.reader());
+    let mut sink = StdSink::new(io::writer(rt));
+    match read_all(rt.alloc(), &mut source, MAX_TEXT_BYTES) {
+        Ok(text) => write_answer(
+            &mut sink,
+            trace_text(
+                rt.alloc(),
+                request.asks.as_slice(),
+                request.ticks,
+                text.as_slice(),
+            ),
+        ),
+        Err(error) => write_fault(&mut sink, error),
+    }
+}
+
+/// Traces a run, as the words behind `trace` ask for it.
+fn trace(rt: &HostRuntime, words: &[String]) -> u8 {
+    match trace_of(rt.alloc(), words) {
+        Ok(request) => trace_input(rt, &request),
+        Err(WordsError::Refused) => tell_usage(rt, 2),
+        Err(WordsError::Memory) => 5,
+    }
+}
+
+/// Says why the standard input was not read, and answers the status.
+fn write_fault<K: Sink>(sink: &mut K, error: ReadAllError) -> u8 {
+    match error {
+        ReadAllError::ReadFault => write(sink, 3, b"fault: read\n"),
+        ReadAllError::TooLong => write(sink, 6, b"refused: text over 131072 bytes\n"),
+        ReadAllError::Memory => 5,
+    }
+}
+
 /// Answers the text of the standard input.
 fn answer_input(rt: &HostRuntime, look: Look) -> u8 {
     let mut source = StdSource::new(rt.reader());
     let mut sink = StdSink::new(io::writer(rt));
     match read_all(rt.alloc(), &mut source, MAX_TEXT_BYTES) {
         Ok(text) => write_answer(&mut sink, answer_text(rt.alloc(), look, text.as_slice())),
-        Err(ReadAllError::ReadFault) => write(&mut sink, 3, b"fault: read\n"),
-        Err(ReadAllError::TooLong) => write(&mut sink, 6, b"refused: text over 131072 bytes\n"),
-        Err(ReadAllError::Memory) => 5,
+        Err(error) => write_fault(&mut sink, error),
     }
 }
 
@@ -68,13 +109,23 @@ fn tell_usage(rt: &HostRuntime, status: u8) -> u8 {
     write(&mut sink, status, USAGE)
 }
 
+/// Does what the words ask for.
+fn answer(rt: &HostRuntime, words: &[String]) -> u8 {
+    if let Some((first, rest)) = words.split_first() {
+        if first.as_str() == "trace" {
+            return trace(rt, rest);
+        }
+    }
+    match look_of(words) {
+        Some(look) => answer_input(rt, look),
+        None if asks_usage(words) => tell_usage(rt, 0),
+        None => tell_usage(rt, 2),
+    }
+}
+
 fn main(rt: HostRuntime) -> ExitCode {
     let status = match words(&rt) {
-        Ok(words) => match look_of(words.as_slice()) {
-            Some(look) => answer_input(&rt, look),
-            None if asks_usage(words.as_slice()) => tell_usage(&rt, 0),
-            None => tell_usage(&rt, 2),
-        },
+        Ok(words) => answer(&rt, words.as_slice()),
         Err(_) => 7,
     };
     ExitCode::from(status)

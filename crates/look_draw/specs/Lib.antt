@@ -1,0 +1,4 @@
+pub mod Drawings
+pub mod Origins
+pub mod Steps
+pub mod Ways

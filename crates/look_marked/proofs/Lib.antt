@@ -1,0 +1,2 @@
+pub mod MarkedMore
+pub mod MarkedFaults

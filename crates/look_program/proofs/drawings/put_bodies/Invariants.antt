@@ -1,7 +1,0 @@
-use Rattle.std.proofs.Common.{◌≡◌, ◌++◌, take}
-use Rattle.listing_write.specs.Items.{counted}
-use Rattle.look_program.specs.Drawings.{body_drawing}
-use Rattle.look_program.proofs.drawings.put_bodies.Given as goal
-
-abbrev pub invariant-loop-n : goal.invariant-loop-n
-invariant-loop-n l = l.out.items ≡ l.initial.out.items ++ counted (body_drawing l.items) 0 (take l.n l.bodies)

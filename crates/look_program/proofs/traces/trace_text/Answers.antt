@@ -1,0 +1,9 @@
+use Rattle.mirdrop_program.proofs.Owing.{all_ok}
+use Rattle.look_program.proofs.Tracing.{trace_unread}
+use Rattle.look_program.proofs.traces.trace_text.Goals as goal
+
+pub returns-in-Err : goal.returns-in-Err
+returns-in-Err c =
+    all_ok c.refused_answer.result _ _ _ _
+    (λ answer told status written. trace_unread c.args.text.now c.args.asks.now c.args.ticks answer.status answer.text.items c.in-Err.refusal c.in-Err.ensures.refused told status written)
+    c.refused_answer.ensures.told c.refused_answer.ensures.status c.refused_answer.ensures.text
