@@ -53,19 +53,8 @@ used_is (Some Use.Store) places stored first (Some to) is same = ap (used_place 
 
 -- what a terminator that drops nothing uses first
 pub not_drop : (term : Term) → ((place : Place) (next : ℕ) (unwind : Unwind) → term ≡ Term.DropAt place next unwind → ⊥) → first_of_term term ≡ slice_get (map place_used (term_uses term)) 0
-not_drop (Term.Goto b) other = refl
-not_drop (Term.If on a b) other = refl
-not_drop (Term.Case on v a b) other = refl
-not_drop (Term.Math to op l r n u) other = refl
-not_drop (Term.Negate to o n u) other = refl
-not_drop (Term.Bounds i c n u) other = refl
-not_drop (Term.Call to b args n u) other = refl
-not_drop (Term.Virtual to t m args n u) other = refl
-not_drop (Term.Ask to n u) other = refl
 not_drop (Term.DropAt place n u) other = absurd (other place n u refl)
-not_drop (Term.Panic w u) other = refl
-not_drop Term.Return other = refl
-not_drop Term.Resume other = refl
+not_drop others other = refl
 
 -- whether a line uses a place
 pub none_used : (places : List Place) (site : Option UseSite) → None ≡ slice_get places 0 → None ≡ if_any places site

@@ -20,13 +20,13 @@ HasFewLines block = length block.stmts < 2 ^ 32 - 1
 
 -- a body of which nothing is built, and one whose block 0 is given out, and whose block 1 returns
 abbrev pub unbuilt : ℕ → BlockRest × Building
-unbuilt id = (ending Term.Return id, record { blocks = []; chains = [] })
+unbuilt id = (ending Term.Return id, record { blocks = []; shared = λ i. [] })
 
 abbrev pub begun : ℕ → BlockRest × Building
 begun id = (
-  ending (Term.Goto 1) id,
+  ending (Term.Goto 1) 0,
   closed Kind.Plain (ending Term.Return id)
-      (reserved (record { blocks = []; chains = [] })),
+      (reserved (record { blocks = []; shared = λ i. [] })),
 )
 
 -- the code of the body stands at all words

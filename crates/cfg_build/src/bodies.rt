@@ -57,7 +57,8 @@ fn start(alloc: Global, id: NodeId, blocks: &mut Blocks) -> Result<(), NoMemory>
     ensures { OnOk result (built_of blocks.old ≡ unbuilt id.0 → built_of blocks.new ≡ begun id.0) }
 {
     blocks.reserve()?;
-    blocks.close(alloc, Kind::Plain)?;
+    let returns = blocks.close(alloc, Kind::Plain)?;
+    blocks.end(alloc, Term::Goto(returns), NodeId(0));
     Ok(())
 }
 

@@ -62,7 +62,7 @@ module _ (f : LoweringFrame) where
 
   abbrev looped_from : ℕ → Lowers → Ways → Scopes → Building → Building → BlockRest × Building
   looped_from id turn c S s start =
-      let again = ending (Term.Goto (next_number start)) id in
+      let again = ending (Term.Goto (next_number start)) 0 in
       let inside = ways_in_loop id (length S) (next_number s) (next_number start) (is_left_by id turn.jumps) c in
       let code = turn.build inside S again (reserved start) in
       (again, filled Kind.Turn (next_number start) code.0 code.1)

@@ -1,8 +1,12 @@
-mod Chained
 mod Doing
-mod Dropped
-mod Left
-mod Tested
+mod Dropping
 mod Ignoring
+mod Jumps
+mod KnownDown
+mod Lasts
+mod Left
+mod Places
 mod Reading
+mod Sharing
 mod Steps
+mod Tested

@@ -203,24 +203,8 @@ never_arm ws i w is none word at arm =
     let apart : false ≡ true = both in cc
 
 never_taken : (all : PatternTests) (key : Option ℕ) (w : words.CodeWord) → ops.IsArm all key ≡ op_of w → ((tests : List Test) (guard : Option Key) → w ≡ words.CodeWord.Arm tests guard → ⊥) → ⊥
-never_taken all number words.CodeWord.Nothing is other = let apart : ops.IsArm all number ≡ op_of words.CodeWord.Nothing = is in cc
-never_taken all number (words.CodeWord.Changes by) is other = let apart : ops.IsArm all number ≡ op_of (words.CodeWord.Changes by) = is in cc
-never_taken all number (words.CodeWord.From by) is other = let apart : ops.IsArm all number ≡ op_of (words.CodeWord.From by) = is in cc
-never_taken all number words.CodeWord.Then is other = let apart : ops.IsArm all number ≡ op_of words.CodeWord.Then = is in cc
-never_taken all number words.CodeWord.BackIn is other = let apart : ops.IsArm all number ≡ op_of words.CodeWord.BackIn = is in cc
-never_taken all number (words.CodeWord.Acts node action) is other = let apart : ops.IsArm all number ≡ op_of (words.CodeWord.Acts node action) = is in cc
-never_taken all number (words.CodeWord.InScope node t) is other = let apart : ops.IsArm all number ≡ op_of (words.CodeWord.InScope node t) = is in cc
-never_taken all number words.CodeWord.Leaves is other = let apart : ops.IsArm all number ≡ op_of words.CodeWord.Leaves = is in cc
-never_taken all number (words.CodeWord.Branches node on) is other = let apart : ops.IsArm all number ≡ op_of (words.CodeWord.Branches node on) = is in cc
-never_taken all number (words.CodeWord.Loops id) is other = let apart : ops.IsArm all number ≡ op_of (words.CodeWord.Loops id) = is in cc
-never_taken all number (words.CodeWord.Exits node exit) is other = let apart : ops.IsArm all number ≡ op_of (words.CodeWord.Exits node exit) = is in cc
-never_taken all number (words.CodeWord.Panics node why) is other = let apart : ops.IsArm all number ≡ op_of (words.CodeWord.Panics node why) = is in cc
-never_taken all number (words.CodeWord.Replaces node place key) is other = let apart : ops.IsArm all number ≡ op_of (words.CodeWord.Replaces node place key) = is in cc
-never_taken all number (words.CodeWord.Drops key) is other = let apart : ops.IsArm all number ≡ op_of (words.CodeWord.Drops key) = is in cc
-never_taken all number words.CodeWord.BeforeArms is other = let apart : ops.IsArm all number ≡ op_of words.CodeWord.BeforeArms = is in cc
 never_taken all number (words.CodeWord.Arm tests guard) is other = other tests guard refl
-never_taken all number words.CodeWord.EmptyArm is other = let apart : ops.IsArm all number ≡ op_of words.CodeWord.EmptyArm = is in cc
-never_taken all number (words.CodeWord.Matches node) is other = let apart : ops.IsArm all number ≡ op_of (words.CodeWord.Matches node) = is in cc
+never_taken all number others is other = let apart : ops.IsArm all number ≡ op_of others = is in cc
 
 -- an arm that ends with another word than that of an arm that is taken
 pub empty_is : (f : LoweringFrame) (ws : List words.CodeWord) (marks : List CodeMark) (one : Arm) (s e : ℕ) (w : words.CodeWord) → StandsArm f (map op_of ws) marks one s e → slice_get ws e ≡ Some w → ((tests : List Test) (guard : Option Key) → w ≡ words.CodeWord.Arm tests guard → ⊥) → one ≡ Empty

@@ -6,11 +6,11 @@ use Rattle.mir_base.specs.declared.trace.Why.{Why}
 use Rattle.lower_rules.specs.Spots.{Ways, ways_in_loop}
 use Rattle.src_meaning.specs.Scopes.{Scopes}
 use Rattle.lower_code.specs.Code as code
-use Rattle.lower_code.specs.Code.{Code, Arms, Guard, no_guard, a_guard}
+use Rattle.lower_code.specs.Code.{Code, Arms}
 use Rattle.src_meaning.specs.Forms.{moved}
 use Rattle.src_meaning.specs.Shape.{PatternTests}
 use Rattle.lower_rules.specs.Build as build
-use Rattle.lower_rules.specs.Build.{LoweringFrame, BlockRest, Building, Lowers, closing, joined, then_build, with_exit, leave, act_by, Done, ending, next_number, reserved, filled, is_left_by, tests, panic_drops, unwinding}
+use Rattle.lower_rules.specs.Build.{LoweringFrame, BlockRest, Building, Lowers, closing, joined, then_build, with_exit, act_by, Done, ending, next_number, reserved, filled, is_left_by, tests, panic_drops, unwinding}
 use Rattle.lower_rules.specs.Lower.{LowersArm, guard_from}
 use Rattle.lower_rules.specs.Codes.{lowers, lowers_arms, behind_tests, some_end, built_from, asked}
 use Rattle.lower_blocks.specs.Building.{loop_of}
@@ -93,8 +93,8 @@ module _ (f : LoweringFrame) (id : ℕ) (turn : Code) (W : Ways) (S : Scopes) (k
 
   abbrev turned : (base exit number : ℕ) (left : Bool) → Building → BlockRest × Building
   turned base exit number left s =
-      let code : BlockRest × Building = (lowers f turn).build (ways_in_loop id base exit number left W) S (ending (Term.Goto number) id) s in
-      (ending (Term.Goto number) id, filled Kind.Turn number code.0 code.1)
+      let code : BlockRest × Building = (lowers f turn).build (ways_in_loop id base exit number left W) S (ending (Term.Goto number) 0) s in
+      (ending (Term.Goto number) 0, filled Kind.Turn number code.0 code.1)
 
   pub looped : (base exit number : ℕ) (left : Bool) (s0 s : Building) (new : BlockRest × Building) → left ≡ is_left → base ≡ length S → exit ≡ next_number b → s0 ≡ with_exit left k b → number ≡ next_number s0 → s ≡ reserved s0 → new ≡ turned base exit number left s → new ≡ (lowers f (code.Loops id turn)).build W S k b
   looped base exit number left s0 s new left_is base_is exit_is s0_is number_is s_is made =

@@ -1,13 +1,17 @@
 -- What contracts see of blocks that are made.
-use Rattle.std.specs.Prelude.{ℕ, Bool, true, false, List, map, reverse, option_map}
+use Rattle.std.specs.Prelude.{◌≡◌, ℕ, true, false, List, [], ◌∷◌, map, reverse, Option, Some, None, option_map, slice_get}
+use Rattle.std.specs.Option.{unwrap_or}
+use Rattle.cfg_graph.specs.declared.terminator.Unwind.{Unwind}
+use Rattle.mir_base.specs.declared.place_in_text.Key.{Key}
 use Rattle.lower_rules.specs.Build as build
 use Rattle.lower_rules.specs.Spots as spots
 use Rattle.lower_rules.specs.Spots.{loop_ways}
 use Rattle.src_meaning.specs.Scopes as scopes
-use Rattle.src_meaning.specs.Scopes.{entry_site}
 use Rattle.lower_passes.specs.Scoped.{entries_of}
 use Rattle.lower_blocks.specs.declared.blocks.Blocks.{Blocks}
-use Rattle.lower_blocks.specs.declared.blocks.Chain.{Chain}
+use Rattle.lower_blocks.specs.declared.blocks.SharedBlock.{SharedBlock}
+use Rattle.lower_blocks.specs.declared.drops.Below.{Below}
+use Rattle.lower_blocks.specs.declared.blocks.SharedEnd.{SharedEnd}
 use Rattle.lower_blocks.specs.declared.blocks.NodeLine.{NodeLine}
 use Rattle.lower_blocks.specs.declared.blocks.MadeBlock.{MadeBlock}
 use Rattle.lower_blocks.specs.declared.blocks.Open.{Open}
@@ -24,13 +28,26 @@ rest_of o = record { lines = reverse (map line_of o.lines); term = o.term; node 
 abbrev pub made_of : MadeBlock → build.MadeBlock
 made_of made = record { block = made.block; nodes = map (λ node. node.0) made.nodes }
 
-abbrev pub chain_of : Chain → List scopes.Entry × ℕ
-chain_of chain = (entries_of chain.entries, chain.block)
+abbrev pub end_of : SharedEnd → build.SharedEnd
+end_of SharedEnd.Resumes = build.Resumes
+end_of (SharedEnd.GoesTo block) = build.GoesTo block
+end_of (SharedEnd.DropsThen key onward unwind) = build.DropsThen key.0 onward unwind
+
+abbrev pub listed_as : SharedBlock → build.SharedEnd × ℕ
+listed_as shared = (end_of shared.end, shared.block)
+
+-- the newest first
+abbrev pub listed_in : List SharedBlock → List (build.SharedEnd × ℕ)
+listed_in blocks = reverse (map listed_as blocks)
+
+-- what is listed at a place, which is nothing past the end
+abbrev pub blocks_at : List (List SharedBlock) → ℕ → List SharedBlock
+blocks_at lists place = unwrap_or (slice_get lists place) []
 
 abbrev pub building_of : Blocks → build.Building
 building_of blocks = record {
   blocks = map (option_map made_of) blocks.made;
-  chains = reverse (map chain_of blocks.chains);
+  shared = λ place. listed_in (blocks_at blocks.shared place);
 }
 
 -- what is built before the rest: what is open, and the blocks so far
@@ -48,9 +65,24 @@ ways_of ways = record {
   loops = map loop_of ways.loops.now;
 }
 
--- one entry more is dropped, if it has to be, and those that are older after a panic out of it
-abbrev pub drop_next :
-    build.LoweringFrame → Bool → scopes.Entry → List scopes.Entry → build.BlockRest × build.Building →
-    build.BlockRest × build.Building
-drop_next f true e below built = build.drop_one f (entry_site e) below built.0 built.1
-drop_next f false e below built = built
+-- where a panic goes on that drops these entries, of which all blocks stand: asked again, none is made
+abbrev pub IsKnownDown : build.LoweringFrame → List scopes.Entry → Unwind → build.Building → Type 0
+IsKnownDown f es unwind s = build.unwind_to f es s ≡ (unwind, s)
+
+-- What is dropped below the next entry. Before the first entry these are listed; behind one it is the youngest, and where
+-- a panic goes on that drops the others is known.
+abbrev pub listed_below :
+    build.LoweringFrame → Below → Option Key → List scopes.Entry → build.Building → Type 0
+listed_below f below None drops s = entries_of below.around ≡ drops
+listed_below f below (Some key) drops s =
+    (e : scopes.Entry) × (es : List scopes.Entry) × (drops ≡ e ∷ es) × (e.key ≡ key.0)
+    × IsKnownDown f es below.unwind s
+
+abbrev pub IsBelow : build.LoweringFrame → Below → List scopes.Entry → build.Building → Type 0
+IsBelow f below drops s = listed_below f below below.youngest drops s
+
+-- the shared block that drops an entry, and these after a panic out of it
+abbrev pub drop_shared :
+    build.LoweringFrame → scopes.Entry → List scopes.Entry → (onward : ℕ) → build.Building → ℕ × build.Building
+drop_shared f e drops onward s =
+    let down = build.unwind_to f drops s in build.share f (build.DropsThen e.key onward down.0) down.1

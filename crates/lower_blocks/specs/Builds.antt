@@ -73,12 +73,12 @@ abbrev pub turn_at : BuildContext → LoopWay → Code → Building → BlockRes
 turn_at at way turn s =
     (lowers (frame_at at) turn).build
     (spots.ways_in_loop way.id.0 way.base way.exit way.turn way.is_left (ways_of at.ways)) (scopes_of at.scopes.now)
-    (build.ending (Term.Goto way.turn) way.id.0) s
+    (build.ending (Term.Goto way.turn) 0) s
 
 abbrev pub IsTurnBuilt : BuildContext → LoopWay → Code → (before after : Blocks) → Type 0
 IsTurnBuilt at way turn before after =
     built_of after ≡ (
-      build.ending (Term.Goto way.turn) way.id.0,
+      build.ending (Term.Goto way.turn) 0,
       build.filled Kind.Turn way.turn (turn_at at way turn (building_of before)).0
           (turn_at at way turn (building_of before)).1,
     )

@@ -3,9 +3,9 @@ ghost use Rattle.std.specs.Prelude.{◌≡◌, ◌++◌, ◌∷◌, [], IfOk, On
 ghost use Rattle.lower_rules.specs.Build as build;
 ghost use Rattle.lower_blocks.specs.Building.{line_of, rest_of, made_of, building_of, built_of};
 
-use cfg_graph::{Block, Kind, Stmt, Term};
+use cfg_graph::{Block, Kind, Stmt, Term, Unwind};
 use lower_code::Entry;
-use mir_base::{List, NoMemory, NodeId};
+use mir_base::{Key, List, NoMemory, NodeId};
 use std::alloc::Global;
 use std::mem;
 
@@ -31,19 +31,33 @@ pub struct MadeBlock {
     pub nodes: List<NodeId>,
 }
 
-/// The block that drops these entries, the youngest last, while a panic unwinds.
-#[derive(Drop)]
-pub struct Chain {
-    pub entries: List<Entry>,
+/// How a block ends to which more than one place may lead, which is all that there is of it: a panic leaves the body; a
+/// block is entered by a jump; or what stands under a key is dropped, and another block is entered.
+#[derive(Clone, Copy)]
+pub enum SharedEnd {
+    Resumes,
+    GoesTo(u32),
+    DropsThen {
+        key: Key,
+        onward: u32,
+        unwind: Unwind,
+    },
+}
+
+/// A block that is shared, by how it ends.
+#[derive(Clone, Copy)]
+pub struct SharedBlock {
+    pub end: SharedEnd,
     pub block: u32,
 }
 
-/// The blocks so far, `None` where a number is given out and the block is still to be made; their chains of drops; what
-/// is open; and a list whose memory is taken where it is asked what a panic drops, whatever it holds.
+/// The blocks so far, `None` where a number is given out and the block is still to be made; those that are shared, by the
+/// key that they drop; what is open; and a list whose memory is taken where it is asked what a panic drops, whatever it
+/// holds.
 #[derive(Drop)]
 pub struct Blocks {
     pub made: List<Option<MadeBlock>>,
-    pub chains: List<Chain>,
+    pub shared: List<List<SharedBlock>>,
     pub rest: Open,
     pub room: List<Entry>,
 }
@@ -149,12 +163,12 @@ impl Open {
 impl Blocks {
     /// No block, with what is open, and room for so many blocks.
     pub fn new(alloc: Global, room: usize, term: Term, node: NodeId) -> Result<Blocks, NoMemory>
-        ensures { IfOk result (λ blocks. built_of blocks ≡ (build.ending term node.0, record { blocks = []; chains = [] })) }
+        ensures { IfOk result (λ blocks. built_of blocks ≡ (build.ending term node.0, record { blocks = []; shared = λ i. [] })) }
     {
         match Vec::with_capacity(alloc, room) {
             Ok(made) => Ok(Blocks {
                 made: List::from_vec(made),
-                chains: List::new(alloc),
+                shared: List::new(alloc),
                 rest: Open::ending(alloc, term, node),
                 room: List::new(alloc),
             }),
@@ -215,6 +229,19 @@ impl Blocks {
             drop(made);
         }
         Ok(())
+    }
+
+    /// The block that what is open enters, where it does nothing else and stands for no node.
+    pub fn jump_of(&self) -> Option<u32>
+        ensures { result ≡ build.jump_of (rest_of self.now.rest) }
+    {
+        if self.rest.node.0 != 0 || !self.rest.lines.is_empty() {
+            return None;
+        }
+        match self.rest.term {
+            Term::Goto(block) => Some(block),
+            _ => None,
+        }
     }
 
     /// Only a terminator is open.

@@ -246,11 +246,11 @@ fn build_turn(
         returns: at.ways.returns,
         loops: loops.as_slice(),
     };
-    blocks.end(alloc, Term::Goto(way.turn), way.id);
+    blocks.end(alloc, Term::Goto(way.turn), NodeId(0));
     let in_turn = BuildContext { ways, ..*at };
     build_one(alloc, &in_turn, end, blocks)?;
     blocks.fill(alloc, Kind::Turn, way.turn)?;
-    blocks.end(alloc, Term::Goto(way.turn), way.id);
+    blocks.end(alloc, Term::Goto(way.turn), NodeId(0));
     Ok(())
 }
 

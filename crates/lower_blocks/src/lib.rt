@@ -1,21 +1,21 @@
 //! Blocks of a body, made of the words of its code from the last to the first (the rustc development guide, "MIR
 //! construction"): the rules for what is no tree of words, and over them the recursion along the words.
-#![tactic(auto, using(crate::proofs::Chained::chains_last, crate::proofs::Chained::lines_last))]
+#![tactic(auto, using(crate::proofs::Lasts::lines_last))]
 
 mod arms;
 mod blocks;
 mod builder;
-mod chains;
 mod conditions;
 mod context;
 mod drops;
 mod effects;
 mod exits;
 mod joins;
+mod shared;
 mod ways;
 mod words;
 
-pub use blocks::{Blocks, Chain, MadeBlock, NodeLine, Open};
+pub use blocks::{Blocks, MadeBlock, NodeLine, Open, SharedBlock, SharedEnd};
 pub use builder::build;
 pub use conditions::{branch_by, if_true, tests};
 pub use context::BuildContext;

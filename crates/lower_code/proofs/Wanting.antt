@@ -27,58 +27,7 @@ is_a_place (IsArm arm) = false
 module _ (items : ItemTable) where
   place_by_form : (form : Form) (h : NodeHead) (s : Shape) → (shape_of items form h).is_place ≡ is_a_place (code_of_form items form h s)
   place_by_form (tree.Number value) h s = refl
-  place_by_form (tree.Truth value) h s = refl
-  place_by_form tree.UnitValue h s = refl
-  place_by_form (tree.Variable key) h s = refl
-  place_by_form (tree.Captured closure part name) h s = refl
-  place_by_form (tree.Field base part) h s = refl
-  place_by_form (tree.Index base index count) h s = refl
-  place_by_form (tree.Deref base) h s = refl
-  place_by_form (tree.Not operand) h s = refl
-  place_by_form (tree.Negate operand) h s = refl
-  place_by_form (tree.Arithmetic operator left right) h s = refl
-  place_by_form (tree.Comparison operator left right) h s = refl
-  place_by_form (tree.And left right) h s = refl
-  place_by_form (tree.Or left right) h s = refl
-  place_by_form (tree.Assign place value) h s = refl
-  place_by_form (tree.Call body args) h s = refl
-  place_by_form (tree.MethodCall body receiver args) h s = refl
-  place_by_form (tree.VirtualCall trait_no method receiver args) h s = refl
-  place_by_form (tree.ClosureCall body callee args) h s = refl
-  place_by_form (tree.Make adt variant fields) h s = refl
-  place_by_form (tree.Tuple parts) h s = refl
-  place_by_form (tree.Array elements) h s = refl
-  place_by_form (tree.Closure closure captures) h s = refl
-  place_by_form (tree.NewBox content) h s = refl
-  place_by_form (tree.Print operand) h s = refl
-  place_by_form tree.Ask h s = refl
-  place_by_form (tree.DropValue operand) h s = refl
-  place_by_form (tree.Forget operand) h s = refl
-  place_by_form tree.Panic h s = refl
-  place_by_form (tree.Borrow unique base) h s = refl
-  place_by_form (tree.Unsize trait_no operand) h s = refl
-  place_by_form (tree.Block stmts tail) h s = refl
-  place_by_form (tree.Let pattern initialiser) h s = refl
-  place_by_form (tree.Evaluate expression) h s = refl
-  place_by_form (tree.If c consequent otherwise) h s = refl
-  place_by_form (tree.IfLet pattern scrutinee consequent otherwise) h s = refl
-  place_by_form (tree.Match scrutinee arms) h s = refl
-  place_by_form (tree.Arm pattern guarded m) h s = refl
-  place_by_form (tree.Loop m) h s = refl
-  place_by_form (tree.While c m) h s = refl
-  place_by_form (tree.WhileLet pattern scrutinee m) h s = refl
-  place_by_form (tree.Break loop value) h s = refl
-  place_by_form (tree.Continue loop) h s = refl
-  place_by_form (tree.Return value) h s = refl
-  place_by_form tree.Wildcard h s = refl
-  place_by_form (tree.Binding name) h s = refl
-  place_by_form (tree.NumberPattern value) h s = refl
-  place_by_form (tree.TruthPattern value) h s = refl
-  place_by_form (tree.StructPattern fields) h s = refl
-  place_by_form (tree.VariantPattern variant is_test fields) h s = refl
-  place_by_form (tree.TuplePattern parts) h s = refl
-  place_by_form (tree.ArrayPattern elements) h s = refl
-  place_by_form (tree.OrPattern alternatives) h s = refl
+  place_by_form other h s = refl
 
   -- where a node is made for what is wanted
   abbrev pub there : FormCode → NodeHead → Category → LoopsAndGuards → Code
@@ -119,11 +68,7 @@ module _ (items : ItemTable) where
 
   value_taken : (w : Category) (h : NodeHead) (s : Shape) (around : LoopsAndGuards) (before : List CodeWord) → finished_onto items w false h s around before ≡ taken_onto w h s before
   value_taken (Value own to) h s around before = refl
-  value_taken UnderOwnKey h s around before = refl
-  value_taken AsOperand h s around before = refl
-  value_taken (Alone to) h s around before = refl
-  value_taken AloneUnderOwnKey h s around before = refl
-  value_taken AsPlace h s around before = refl
+  value_taken other h s around before = refl
 
   by_does : (w : Category) (h : NodeHead) (s : Shape) (does : FormCode) (around : LoopsAndGuards) (before : List CodeWord) → finished_onto items w (is_a_place does) h s around (onto (there does h w around) before) ≡ onto (code_for w (node_code items h s does) around) before
   by_does w h s (Makes e) around before =

@@ -46,16 +46,6 @@ module _ (items : ItemTable) (h : NodeHead) (s : Shape) (around : LoopsAndGuards
   does_nothing (tree.Tuple parts) in_leaf in_place in_operator in_call in_scoped in_statement = let never : true ≡ false = in_call in cc
   does_nothing (tree.Array elements) in_leaf in_place in_operator in_call in_scoped in_statement = let never : true ≡ false = in_call in cc
   does_nothing (tree.Closure closure captures) in_leaf in_place in_operator in_call in_scoped in_statement = let never : true ≡ false = in_call in cc
-  does_nothing (tree.And left right) in_leaf in_place in_operator in_call in_scoped in_statement = let never : true ≡ false = in_scoped in cc
-  does_nothing (tree.Or left right) in_leaf in_place in_operator in_call in_scoped in_statement = let never : true ≡ false = in_scoped in cc
-  does_nothing (tree.If c consequent otherwise) in_leaf in_place in_operator in_call in_scoped in_statement = let never : true ≡ false = in_scoped in cc
-  does_nothing (tree.IfLet pattern scrutinee consequent otherwise) in_leaf in_place in_operator in_call in_scoped in_statement = let never : true ≡ false = in_scoped in cc
-  does_nothing (tree.Match scrutinee arms) in_leaf in_place in_operator in_call in_scoped in_statement = let never : true ≡ false = in_scoped in cc
-  does_nothing (tree.Loop m) in_leaf in_place in_operator in_call in_scoped in_statement = let never : true ≡ false = in_scoped in cc
-  does_nothing (tree.While c m) in_leaf in_place in_operator in_call in_scoped in_statement = let never : true ≡ false = in_scoped in cc
-  does_nothing (tree.WhileLet pattern scrutinee m) in_leaf in_place in_operator in_call in_scoped in_statement = let never : true ≡ false = in_scoped in cc
-  does_nothing (tree.Break loop value) in_leaf in_place in_operator in_call in_scoped in_statement = let never : true ≡ false = in_scoped in cc
-  does_nothing (tree.Return value) in_leaf in_place in_operator in_call in_scoped in_statement = let never : true ≡ false = in_scoped in cc
   does_nothing (tree.Block stmts tail) in_leaf in_place in_operator in_call in_scoped in_statement = let never : true ≡ false = in_statement in cc
   does_nothing (tree.Let pattern initialiser) in_leaf in_place in_operator in_call in_scoped in_statement = let never : true ≡ false = in_statement in cc
   does_nothing (tree.Evaluate expression) in_leaf in_place in_operator in_call in_scoped in_statement = let never : true ≡ false = in_statement in cc
@@ -69,6 +59,7 @@ module _ (items : ItemTable) (h : NodeHead) (s : Shape) (around : LoopsAndGuards
   does_nothing (tree.TuplePattern parts) in_leaf in_place in_operator in_call in_scoped in_statement = refl
   does_nothing (tree.ArrayPattern elements) in_leaf in_place in_operator in_call in_scoped in_statement = refl
   does_nothing (tree.OrPattern alternatives) in_leaf in_place in_operator in_call in_scoped in_statement = refl
+  does_nothing other in_leaf in_place in_operator in_call in_scoped in_statement = let never : true ≡ false = in_scoped in cc
 
 -- what a group says of a form that is not in it
 pub not_in : (group : Form → Bool) (items : ItemTable) (form : Form) (at : Context) (before after : Code) (is : Bool) → is ≡ false → IsCodeIn group items form at before after is → (group form ≡ false) × (after ≡ before)

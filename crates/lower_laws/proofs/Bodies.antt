@@ -272,7 +272,7 @@ module _ (p : ProgramTree) (w : WellTyped p) where
         let t = target_of p.items body (body_of p.items body) (node_of p.items body) in
         let begun = lower.start f body in
         let S = lower.answer_scope f body in
-        let last = ending (Term.Goto 1) (answer_key body) in
+        let last = ending (Term.Goto 1) 0 in
         let code = (lower.entire_function f body).build (body_ways 1) S last begun in
         let grows : length begun.blocks ≤ length code.1.blocks = ((function_lowers t body).grows (body_ways 1) S last begun).longer in
         let set = set_length code.1.blocks 0 (Some (made Kind.Plain (length code.1.blocks) code.0)) in

@@ -60,20 +60,10 @@ by_operands (operand ∷ operands) =
     no_drops_append (operand_uses operand) (flat_map operand_uses operands) (by_operand operand) (by_operands operands)
 
 by_others : (stmt : Stmt) → NoDrops (other_uses stmt)
-by_others (Stmt.Put to from) = tt
-by_others (Stmt.Compare to op left right) = tt
-by_others (Stmt.Not to operand) = tt
-by_others (Stmt.Tuple to parts) = tt
-by_others (Stmt.Array to parts) = tt
-by_others (Stmt.Make to adt variant parts) = tt
-by_others (Stmt.Close to closure parts) = tt
-by_others (Stmt.NewBox to operand) = tt
-by_others (Stmt.Unsize to trait_no from) = tt
 by_others (Stmt.Borrow to unique of) = (refl, tt)
 by_others (Stmt.Touch place) = (refl, tt)
-by_others (Stmt.Print operand) = tt
-by_others (Stmt.Forget operand) = tt
 by_others (Stmt.Free place) = (refl, tt)
+by_others other = tt
 
 by_stores : (places : List Place) → NoDrops (map (λ place. (Stores, place)) places)
 by_stores [] = tt

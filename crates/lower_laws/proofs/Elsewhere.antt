@@ -24,18 +24,10 @@ no-panic : (term : Term) (m : ℕ) → cleans_up term ≡ true → Contains (unw
 no-panic (Term.Goto block) m h has = none-in m has
 no-panic (Term.If on if_true if_false) m h has = none-in m has
 no-panic (Term.Case on variant if_true if_false) m h has = none-in m has
-no-panic (Term.Math to op left right next unwind) m h has = false≢true h
-no-panic (Term.Negate to of next unwind) m h has = false≢true h
-no-panic (Term.Bounds index count next unwind) m h has = false≢true h
-no-panic (Term.Call to body args next unwind) m h has = false≢true h
-no-panic (Term.Virtual to trait_no method args next unwind) m h has = false≢true h
-no-panic (Term.Ask to next unwind) m h has = false≢true h
-no-panic (Term.DropAt place next (Unwind.Block block)) m h has = false≢true h
-no-panic (Term.DropAt place next Unwind.Resume) m h has = false≢true h
 no-panic (Term.DropAt place next Unwind.Abort) m h has = none-in m has
-no-panic (Term.Panic why unwind) m h has = false≢true h
 no-panic Term.Return m h has = none-in m has
 no-panic Term.Resume m h has = none-in m has
+no-panic other m h has = false≢true h
 
 not-both : (a : Bool) → not a ≡ true → a ≡ true → ⊥
 not-both true h k = false≢true h

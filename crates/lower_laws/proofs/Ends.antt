@@ -70,17 +70,7 @@ unwinds_to Unwind.Abort m call is e = absurd (false≢true (sym (ap leaves e)))
 same_int_never : (o : Option Ty) → same_int o (Some Ty.Never) ≡ false
 same_int_never None = refl
 same_int_never (Some Ty.Never) = refl
-same_int_never (Some Ty.Unit) = refl
-same_int_never (Some Ty.Bool) = refl
-same_int_never (Some (Ty.Int kind)) = refl
-same_int_never (Some (Ty.Tuple parts)) = refl
-same_int_never (Some (Ty.Array element count)) = refl
-same_int_never (Some (Ty.Adt n)) = refl
-same_int_never (Some (Ty.Closure n)) = refl
-same_int_never (Some (Ty.Boxed inside)) = refl
-same_int_never (Some (Ty.Shared to)) = refl
-same_int_never (Some (Ty.Unique to)) = refl
-same_int_never (Some (Ty.Dyn n)) = refl
+same_int_never (Some other) = refl
 
 module _ (items : ItemTable) (body : Body) where
   -- ---- the store of a result, on a way of a path
@@ -122,26 +112,19 @@ module _ (items : ItemTable) (body : Body) where
 
   term_stores : (n line m : ℕ) (term : Term) → term_has_types items body.locals term ≡ true → (Contains (onward term) m → Contains (unwind_targets term) m → ⊥) → (given : List Bool) → Contains (ways items body term) (Out (ToBlock m) given) →
       ends_any items body (result (list_any (nat_eq m) (onward term)) n line term) ≡ false
-  term_stores n line m (Term.Goto block) h apart given way = nothing_stored (list_any (nat_eq m) (onward (Term.Goto block))) n line (Term.Goto block) refl
-  term_stores n line m (Term.If on if_true if_false) h apart given way = nothing_stored (list_any (nat_eq m) (onward (Term.If on if_true if_false))) n line (Term.If on if_true if_false) refl
-  term_stores n line m (Term.Case on variant if_true if_false) h apart given way = nothing_stored (list_any (nat_eq m) (onward (Term.Case on variant if_true if_false))) n line (Term.Case on variant if_true if_false) refl
   term_stores n line m (Term.Math to op left right next unwind) h apart given way =
       one_stored (list_any (nat_eq m) (onward (Term.Math to op left right next unwind))) n line (Term.Math to op left right next unwind) to refl
       (made (ty_of_place items body.locals to) (same_int (ty_of_operand items body.locals left)) (same_int_never (ty_of_operand items body.locals left)) (second_so _ (same_int (ty_of_operand items body.locals left) (ty_of_place items body.locals to)) h))
   term_stores n line m (Term.Negate to of next unwind) h apart given way =
       one_stored (list_any (nat_eq m) (onward (Term.Negate to of next unwind))) n line (Term.Negate to of next unwind) to refl
       (made (ty_of_place items body.locals to) (same_int (ty_of_operand items body.locals of)) (same_int_never (ty_of_operand items body.locals of)) (second_so _ (same_int (ty_of_operand items body.locals of) (ty_of_place items body.locals to)) h))
-  term_stores n line m (Term.Bounds index count next unwind) h apart given way = nothing_stored (list_any (nat_eq m) (onward (Term.Bounds index count next unwind))) n line (Term.Bounds index count next unwind) refl
   term_stores n line m (Term.Call to callee args next unwind) h apart given way =
       of_call n line m next (Term.Call to callee args next unwind) to given unwind refl refl apart (λ e. unwinds_to unwind m (λ u. Term.Call to callee args next u) (λ k. refl)) (call_back to next m given unwind (Term.Call to callee args next unwind) refl way)
   term_stores n line m (Term.Virtual to trait_no method args next unwind) h apart given way =
       of_call n line m next (Term.Virtual to trait_no method args next unwind) to given unwind refl refl apart (λ e. unwinds_to unwind m (λ u. Term.Virtual to trait_no method args next u) (λ k. refl)) (call_back to next m given unwind (Term.Virtual to trait_no method args next unwind) refl way)
   term_stores n line m (Term.Ask to next unwind) h apart given way =
       one_stored (list_any (nat_eq m) (onward (Term.Ask to next unwind))) n line (Term.Ask to next unwind) to refl (made (ty_of_place items body.locals to) (is_int IntKind.I32) refl h)
-  term_stores n line m (Term.DropAt place next unwind) h apart given way = nothing_stored (list_any (nat_eq m) (onward (Term.DropAt place next unwind))) n line (Term.DropAt place next unwind) refl
-  term_stores n line m (Term.Panic why unwind) h apart given way = nothing_stored (list_any (nat_eq m) (onward (Term.Panic why unwind))) n line (Term.Panic why unwind) refl
-  term_stores n line m Term.Return h apart given way = nothing_stored (list_any (nat_eq m) (onward Term.Return)) n line Term.Return refl
-  term_stores n line m Term.Resume h apart given way = nothing_stored (list_any (nat_eq m) (onward Term.Resume)) n line Term.Resume refl
+  term_stores n line m other h apart given way = nothing_stored (list_any (nat_eq m) (onward other)) n line other refl
 
   -- where nothing is reached, nothing is met
   module _ (never : (path : List ℕ) (given : List Bool) (bad : BadUse) → Reaches items body path given bad → ⊥) where

@@ -29,7 +29,7 @@ use Rattle.typed_tree.specs.Nodes.{numbers_of}
 use Rattle.typed_tree.specs.Tree.{BodyTree, ProgramTree}
 use Rattle.src_meaning.specs.Programs.{free_run, reached_by}
 use Rattle.store_model.specs.Abstract.Effects.{AbstractState}
-use Rattle.store_model.specs.Effects.{Aborted, BadStore, BadUse as BadRead, Infeasible, NoChoice, OutOfTicks, Stuck, StuckAt, Unreachable, Out, Go, Halts, Unwind}
+use Rattle.store_model.specs.Effects.{Aborted, Out, Go, Halts, Unwind}
 use Rattle.well_typed.specs.Claim.{Holds}
 use Rattle.well_typed.specs.Names.{do_rise}
 use Rattle.well_typed.specs.Program.{are_bodies, WellTyped}
@@ -147,14 +147,7 @@ module _ (program : ProgramTree) (named : AllNameTheirLoops program) (rises : Al
   same_left (Go w) = refl
   same_left (Unwind w) = refl
   same_left (Halts Aborted w) = refl
-  same_left (Halts OutOfTicks w) = refl
-  same_left (Halts Stuck w) = refl
-  same_left (Halts (StuckAt number block) w) = refl
-  same_left (Halts (BadRead site) w) = refl
-  same_left (Halts (BadStore site) w) = refl
-  same_left (Halts NoChoice w) = refl
-  same_left (Halts Infeasible w) = refl
-  same_left (Halts Unreachable w) = refl
+  same_left (Halts other w) = refl
 
   both_leave : (list : List Bool) → choices_left (free_walk items node body list) ≡ choices_left (free_run items tree list)
   both_leave list =

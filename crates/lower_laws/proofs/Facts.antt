@@ -87,20 +87,10 @@ module _ (items : ItemTable) (bodies : ℕ) where
       some_round (x ∷ xs) n ty e = (length xs, refl)
 
       by : (ty : Ty) (l : ℕ) → ((k : ℕ) × (l ≡ suc k)) → type_at items id ≡ Some ty → in_rounds items.types (misplacing items) l id ≡ false → forms.is_dyn (Some ty) ≡ false
-      by (Ty.Int kind) l r e h = refl
-      by Ty.Bool l r e h = refl
-      by Ty.Unit l r e h = refl
-      by Ty.Never l r e h = refl
-      by (Ty.Adt n) l r e h = refl
-      by (Ty.Tuple parts) l r e h = refl
-      by (Ty.Array element count) l r e h = refl
-      by (Ty.Boxed content) l r e h = refl
       by (Ty.Dyn n) l r e h =
           let shown : in_rounds items.types (misplacing items) (suc r.0) id ≡ false = subst (λ (z : ℕ). in_rounds items.types (misplacing items) z id ≡ false) r.1 h in
           absurd (untrue (sym (ap (λ (o : Option Ty). option_map_or (misplacing items (in_rounds items.types (misplacing items) r.0)) o false) (sym e) ∙ shown)))
-      by (Ty.Shared to) l r e h = refl
-      by (Ty.Unique to) l r e h = refl
-      by (Ty.Closure n) l r e h = refl
+      by other l r e h = refl
 
   not_so : (b : Bool) → not b ≡ true → b ≡ false
   not_so true h = absurd (untrue h)
@@ -156,42 +146,17 @@ module _ (p : ProgramTree) (w : WellTyped p) where
       of_closure : (o : Option ClosureDef) → slice_get p.items.closures k ≡ o → slice_get (captures_of o) n ≡ Some j → (t : Ty) × (type_at p.items j ≡ Some t)
       of_closure None q h = absurd (none-some j h)
       of_closure (Some def) q h = of_alone def.captures n j (numbered_at _ 0 p.items.closures k def w.0.1.1.1.1.1.0 q).1.0 h
-  parts_there id (Ty.Int kind) v n j e h = absurd (none-some j h)
-  parts_there id Ty.Bool v n j e h = absurd (none-some j h)
-  parts_there id Ty.Unit v n j e h = absurd (none-some j h)
-  parts_there id Ty.Never v n j e h = absurd (none-some j h)
-  parts_there id (Ty.Boxed content) v n j e h = absurd (none-some j h)
-  parts_there id (Ty.Dyn k) v n j e h = absurd (none-some j h)
-  parts_there id (Ty.Shared to) v n j e h = absurd (none-some j h)
-  parts_there id (Ty.Unique to) v n j e h = absurd (none-some j h)
+  parts_there id other v n j e h = absurd (none-some j h)
 
   pub content_there : (id : TyId) (ty : Ty) (j : TyId) → type_at p.items id ≡ Some ty → content_of ty ≡ Some j → (t : Ty) × (type_at p.items j ≡ Some t)
   content_there id (Ty.Boxed content) j e h = subst (λ (z : TyId). (t : Ty) × (type_at p.items z ≡ Some t)) (same_Some content j h) (some_is (type_at p.items content) (and_first _ _ (good id (Ty.Boxed content) e)))
   content_there id (Ty.Shared to) j e h = subst (λ (z : TyId). (t : Ty) × (type_at p.items z ≡ Some t)) (same_Some to j h) (some_is (type_at p.items to) (and_first _ _ (good id (Ty.Shared to) e)))
   content_there id (Ty.Unique to) j e h = subst (λ (z : TyId). (t : Ty) × (type_at p.items z ≡ Some t)) (same_Some to j h) (some_is (type_at p.items to) (and_first _ _ (good id (Ty.Unique to) e)))
-  content_there id (Ty.Int kind) j e h = absurd (none-some j h)
-  content_there id Ty.Bool j e h = absurd (none-some j h)
-  content_there id Ty.Unit j e h = absurd (none-some j h)
-  content_there id Ty.Never j e h = absurd (none-some j h)
-  content_there id (Ty.Adt k) j e h = absurd (none-some j h)
-  content_there id (Ty.Tuple parts) j e h = absurd (none-some j h)
-  content_there id (Ty.Array element count) j e h = absurd (none-some j h)
-  content_there id (Ty.Dyn k) j e h = absurd (none-some j h)
-  content_there id (Ty.Closure k) j e h = absurd (none-some j h)
+  content_there id other j e h = absurd (none-some j h)
 
   pub element_there : (id : TyId) (ty : Ty) (j : TyId) → type_at p.items id ≡ Some ty → element_of ty ≡ Some j → (t : Ty) × (type_at p.items j ≡ Some t)
   element_there id (Ty.Array element count) j e h = subst (λ (z : TyId). (t : Ty) × (type_at p.items z ≡ Some t)) (same_Some element j h) (alone element (and_first (items_of.stands_alone p.items element) _ (good id (Ty.Array element count) e)))
-  element_there id (Ty.Int kind) j e h = absurd (none-some j h)
-  element_there id Ty.Bool j e h = absurd (none-some j h)
-  element_there id Ty.Unit j e h = absurd (none-some j h)
-  element_there id Ty.Never j e h = absurd (none-some j h)
-  element_there id (Ty.Adt k) j e h = absurd (none-some j h)
-  element_there id (Ty.Tuple parts) j e h = absurd (none-some j h)
-  element_there id (Ty.Boxed content) j e h = absurd (none-some j h)
-  element_there id (Ty.Dyn k) j e h = absurd (none-some j h)
-  element_there id (Ty.Shared to) j e h = absurd (none-some j h)
-  element_there id (Ty.Unique to) j e h = absurd (none-some j h)
-  element_there id (Ty.Closure k) j e h = absurd (none-some j h)
+  element_there id other j e h = absurd (none-some j h)
 
   pub trait_there : (id : TyId) (n : ℕ) → type_at p.items id ≡ Some (Ty.Dyn n) → nat_lt n (length p.items.traits) ≡ true
   trait_there id n e = good id (Ty.Dyn n) e

@@ -4,7 +4,7 @@ use Rattle.std.proofs.lemmas.List.{append-nil}
 use Rattle.std.proofs.lemmas.Option.{none-some, same_Some}
 use Rattle.mir_ty.specs.ItemTable.{ItemTable}
 use Rattle.store_model.specs.Abstract.Effects.{AbstractState}
-use Rattle.store_model.specs.Effects.{EffectSite, Out, Go, Unwind, Halts, Halt, Aborted, OutOfTicks, Stuck, StuckAt, BadUse, BadStore, NoChoice, Infeasible, Unreachable}
+use Rattle.store_model.specs.Effects.{EffectSite, Out, Go, Unwind, Halts, Halt, Aborted, BadUse, BadStore}
 use Rattle.cfg_graph.specs.declared.graph.Body.{Body}
 use Rattle.cfg_graph.specs.Moves.BadUses as bad_uses
 use Rattle.cfg_graph.specs.Moves.BadUses.{UseRule, U1, U2}
@@ -37,14 +37,7 @@ same_rule : (out : Out AbstractState) → rule_of_run (renamed without_place out
 same_rule (Go w) = refl
 same_rule (Unwind w) = refl
 same_rule (Halts Aborted w) = refl
-same_rule (Halts OutOfTicks w) = refl
-same_rule (Halts Stuck w) = refl
-same_rule (Halts (StuckAt body block) w) = refl
-same_rule (Halts (BadUse site) w) = refl
-same_rule (Halts (BadStore site) w) = refl
-same_rule (Halts NoChoice w) = refl
-same_rule (Halts Infeasible w) = refl
-same_rule (Halts Unreachable w) = refl
+same_rule (Halts other w) = refl
 
 -- and back: where a walk is refused at a site, it has halted there, and has taken all choices
 pub record Refusal (halt : Halt) (w : AbstractState) (site : EffectSite) : Type 0 where
@@ -79,13 +72,7 @@ refusal (BadStore at) w site h = by w.choices refl h
         same_site U1 other e = absurd (cc)
         same_site U2 other e = cc
     by (c ∷ l) e h = absurd (none-some site h)
-refusal Aborted w site h = absurd (none-some site h)
-refusal OutOfTicks w site h = absurd (none-some site h)
-refusal Stuck w site h = absurd (none-some site h)
-refusal (StuckAt body block) w site h = absurd (none-some site h)
-refusal NoChoice w site h = absurd (none-some site h)
-refusal Infeasible w site h = absurd (none-some site h)
-refusal Unreachable w site h = absurd (none-some site h)
+refusal other w site h = absurd (none-some site h)
 
 abbrev halting : Halt → AbstractState → Out AbstractState
 halting halt w = Halts halt w

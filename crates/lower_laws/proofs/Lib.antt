@@ -13,6 +13,12 @@ pub mod Names
 pub mod Branches
 mod Fields
 pub mod MovedOut
+pub mod FormTypes
+pub mod FormValues
+pub mod FormEffects
+pub mod FormPlaces
+pub mod FormStatements
+pub mod FormBranching
 pub mod Forms
 pub mod LineCells
 pub mod Facts

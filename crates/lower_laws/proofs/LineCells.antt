@@ -12,7 +12,7 @@ use Rattle.src_meaning.specs.Locals.OfBody.{cells, reached_cells, cells_in, all_
 use Rattle.src_meaning.specs.Scopes.{Entry}
 use Rattle.well_typed.specs.Places.{form_of}
 use Rattle.lower_laws.proofs.Base as base
-use Rattle.lower_laws.proofs.Base.{Ground, untrue}
+use Rattle.lower_laws.proofs.Base.{Ground}
 use Rattle.lower_laws.proofs.Names as names
 use Rattle.lower_laws.proofs.Names.{OfNodes}
 
@@ -75,11 +75,6 @@ module _ (g : Ground) where
     keys_reached (tree.node id at ty by form) P h = keys_made _ _ (cells_in g.items form) P h.0 (keys_in form P h.1)
 
     pub keys_in : (form : Form) (P : ℕ → Type 0) → OfNodes P (nodes_in form) → OfKeys P (cells_in g.items form)
-    keys_in (tree.Number value_) P h = tt
-    keys_in (tree.Truth value_) P h = tt
-    keys_in tree.UnitValue P h = tt
-    keys_in (tree.Variable key) P h = tt
-    keys_in (tree.Captured closure part name) P h = tt
     keys_in (tree.Field inner part) P h = keys_reached inner P h
     keys_in (tree.Index inner index length) P h = keys_append P _ _ (keys_reached inner P (nodes_first P (nodes_of inner) (nodes_of index) h)) (keys_cells true index P (nodes_second P (nodes_of inner) (nodes_of index) h))
     keys_in (tree.Deref inner) P h = keys_reached inner P h
@@ -100,10 +95,8 @@ module _ (g : Ground) where
     keys_in (tree.Closure closure captures) P h = keys_all captures P h
     keys_in (tree.NewBox content) P h = keys_cells true content P h
     keys_in (tree.Print operand) P h = keys_cells true operand P h
-    keys_in tree.Ask P h = tt
     keys_in (tree.DropValue operand) P h = keys_cells true operand P h
     keys_in (tree.Forget operand) P h = keys_cells true operand P h
-    keys_in tree.Panic P h = tt
     keys_in (tree.Borrow unique inner) P h = keys_reached inner P h
     keys_in (tree.Unsize trait_no operand) P h = keys_cells true operand P h
     keys_in (tree.Block statements tail) P h = keys_append P _ _ (keys_all statements P (nodes_first P (nodes_among statements) (nodes_if_any tail) h)) (keys_any false tail P (nodes_second P (nodes_among statements) (nodes_if_any tail) h))
@@ -117,17 +110,13 @@ module _ (g : Ground) where
     keys_in (tree.While condition inner) P h = keys_append P _ _ (keys_cells true condition P (nodes_first P (nodes_of condition) (nodes_of inner) h)) (keys_cells true inner P (nodes_second P (nodes_of condition) (nodes_of inner) h))
     keys_in (tree.WhileLet p scrutinee inner) P h = keys_append P _ _ (keys_append P _ _ (keys_cells true p P (nodes_first P (nodes_of p) (nodes_of scrutinee) (nodes_first P (nodes_of p ++ nodes_of scrutinee) (nodes_of inner) h))) (keys_reached scrutinee P (nodes_second P (nodes_of p) (nodes_of scrutinee) (nodes_first P (nodes_of p ++ nodes_of scrutinee) (nodes_of inner) h)))) (keys_cells true inner P (nodes_second P (nodes_of p ++ nodes_of scrutinee) (nodes_of inner) h))
     keys_in (tree.Break loop value_) P h = keys_any false value_ P h
-    keys_in (tree.Continue loop) P h = tt
     keys_in (tree.Return value_) P h = keys_any false value_ P h
-    keys_in tree.Wildcard P h = tt
-    keys_in (tree.Binding name) P h = tt
-    keys_in (tree.NumberPattern value_) P h = tt
-    keys_in (tree.TruthPattern value_) P h = tt
     keys_in (tree.StructPattern fields) P h = keys_fields fields P h
     keys_in (tree.VariantPattern variant is_test fields) P h = keys_fields fields P h
     keys_in (tree.TuplePattern parts) P h = keys_all parts P h
     keys_in (tree.ArrayPattern elements) P h = keys_all elements P h
     keys_in (tree.OrPattern alternatives) P h = keys_all alternatives P h
+    keys_in other P h = tt
 
     keys_all : (ns : Nodes) (P : ℕ → Type 0) → OfNodes P (nodes_among ns) → OfKeys P (all_cells g.items ns)
     keys_all no_node P h = tt
@@ -144,58 +133,7 @@ module _ (g : Ground) where
     keys_init : (p : Node) (n : MaybeNode) (P : ℕ → Type 0) → OfNodes P (nodes_if_any n) → OfKeys P (initial_cells g.items p n)
     keys_init p absent P h = tt
     keys_init (tree.node id at ty by (tree.Binding name)) (present value_) P h = keys_cells false value_ P h
-    keys_init (tree.node id at ty by (tree.Number number_)) (present value_) P h = keys_reached value_ P h
-    keys_init (tree.node id at ty by (tree.Truth number_)) (present value_) P h = keys_reached value_ P h
-    keys_init (tree.node id at ty by tree.UnitValue) (present value_) P h = keys_reached value_ P h
-    keys_init (tree.node id at ty by (tree.Variable key)) (present value_) P h = keys_reached value_ P h
-    keys_init (tree.node id at ty by (tree.Captured closure part name)) (present value_) P h = keys_reached value_ P h
-    keys_init (tree.node id at ty by (tree.Field inner part)) (present value_) P h = keys_reached value_ P h
-    keys_init (tree.node id at ty by (tree.Index inner index length)) (present value_) P h = keys_reached value_ P h
-    keys_init (tree.node id at ty by (tree.Deref inner)) (present value_) P h = keys_reached value_ P h
-    keys_init (tree.node id at ty by (tree.Not operand)) (present value_) P h = keys_reached value_ P h
-    keys_init (tree.node id at ty by (tree.Negate operand)) (present value_) P h = keys_reached value_ P h
-    keys_init (tree.node id at ty by (tree.Arithmetic operator left right)) (present value_) P h = keys_reached value_ P h
-    keys_init (tree.node id at ty by (tree.Comparison operator left right)) (present value_) P h = keys_reached value_ P h
-    keys_init (tree.node id at ty by (tree.And left right)) (present value_) P h = keys_reached value_ P h
-    keys_init (tree.node id at ty by (tree.Or left right)) (present value_) P h = keys_reached value_ P h
-    keys_init (tree.node id at ty by (tree.Assign target number_)) (present value_) P h = keys_reached value_ P h
-    keys_init (tree.node id at ty by (tree.Call called args)) (present value_) P h = keys_reached value_ P h
-    keys_init (tree.node id at ty by (tree.MethodCall called receiver args)) (present value_) P h = keys_reached value_ P h
-    keys_init (tree.node id at ty by (tree.VirtualCall trait_no method receiver args)) (present value_) P h = keys_reached value_ P h
-    keys_init (tree.node id at ty by (tree.ClosureCall called callee args)) (present value_) P h = keys_reached value_ P h
-    keys_init (tree.node id at ty by (tree.Make adt variant fields)) (present value_) P h = keys_reached value_ P h
-    keys_init (tree.node id at ty by (tree.Tuple parts)) (present value_) P h = keys_reached value_ P h
-    keys_init (tree.node id at ty by (tree.Array elements)) (present value_) P h = keys_reached value_ P h
-    keys_init (tree.node id at ty by (tree.Closure closure captures)) (present value_) P h = keys_reached value_ P h
-    keys_init (tree.node id at ty by (tree.NewBox content)) (present value_) P h = keys_reached value_ P h
-    keys_init (tree.node id at ty by (tree.Print operand)) (present value_) P h = keys_reached value_ P h
-    keys_init (tree.node id at ty by tree.Ask) (present value_) P h = keys_reached value_ P h
-    keys_init (tree.node id at ty by (tree.DropValue operand)) (present value_) P h = keys_reached value_ P h
-    keys_init (tree.node id at ty by (tree.Forget operand)) (present value_) P h = keys_reached value_ P h
-    keys_init (tree.node id at ty by tree.Panic) (present value_) P h = keys_reached value_ P h
-    keys_init (tree.node id at ty by (tree.Borrow unique inner)) (present value_) P h = keys_reached value_ P h
-    keys_init (tree.node id at ty by (tree.Unsize trait_no operand)) (present value_) P h = keys_reached value_ P h
-    keys_init (tree.node id at ty by (tree.Block statements tail)) (present value_) P h = keys_reached value_ P h
-    keys_init (tree.node id at ty by (tree.Let p initialiser)) (present value_) P h = keys_reached value_ P h
-    keys_init (tree.node id at ty by (tree.Evaluate expression)) (present value_) P h = keys_reached value_ P h
-    keys_init (tree.node id at ty by (tree.If condition consequent otherwise)) (present value_) P h = keys_reached value_ P h
-    keys_init (tree.node id at ty by (tree.IfLet p scrutinee consequent otherwise)) (present value_) P h = keys_reached value_ P h
-    keys_init (tree.node id at ty by (tree.Match scrutinee arms)) (present value_) P h = keys_reached value_ P h
-    keys_init (tree.node id at ty by (tree.Arm p guard inner)) (present value_) P h = keys_reached value_ P h
-    keys_init (tree.node id at ty by (tree.Loop inner)) (present value_) P h = keys_reached value_ P h
-    keys_init (tree.node id at ty by (tree.While condition inner)) (present value_) P h = keys_reached value_ P h
-    keys_init (tree.node id at ty by (tree.WhileLet p scrutinee inner)) (present value_) P h = keys_reached value_ P h
-    keys_init (tree.node id at ty by (tree.Break loop number_)) (present value_) P h = keys_reached value_ P h
-    keys_init (tree.node id at ty by (tree.Continue loop)) (present value_) P h = keys_reached value_ P h
-    keys_init (tree.node id at ty by (tree.Return number_)) (present value_) P h = keys_reached value_ P h
-    keys_init (tree.node id at ty by tree.Wildcard) (present value_) P h = keys_reached value_ P h
-    keys_init (tree.node id at ty by (tree.NumberPattern number_)) (present value_) P h = keys_reached value_ P h
-    keys_init (tree.node id at ty by (tree.TruthPattern number_)) (present value_) P h = keys_reached value_ P h
-    keys_init (tree.node id at ty by (tree.StructPattern fields)) (present value_) P h = keys_reached value_ P h
-    keys_init (tree.node id at ty by (tree.VariantPattern variant is_test fields)) (present value_) P h = keys_reached value_ P h
-    keys_init (tree.node id at ty by (tree.TuplePattern parts)) (present value_) P h = keys_reached value_ P h
-    keys_init (tree.node id at ty by (tree.ArrayPattern elements)) (present value_) P h = keys_reached value_ P h
-    keys_init (tree.node id at ty by (tree.OrPattern alternatives)) (present value_) P h = keys_reached value_ P h
+    keys_init (tree.node id at ty by other) (present value_) P h = keys_reached value_ P h
 
   -- ---- and no two are the same
   mutual
@@ -206,11 +144,6 @@ module _ (g : Ground) where
     apart_reached (tree.node id at ty by form) r = distinct_made _ _ (cells_in g.items form) (keys_in form (λ k. (id == k) ≡ false) (over_apart id (nodes_in form) r.0)) (apart_in form r.1)
 
     pub apart_in : (form : Form) → base.Rise g (nodes_in form) → Distinct (cells_in g.items form)
-    apart_in (tree.Number value_) r = tt
-    apart_in (tree.Truth value_) r = tt
-    apart_in tree.UnitValue r = tt
-    apart_in (tree.Variable key) r = tt
-    apart_in (tree.Captured closure part name) r = tt
     apart_in (tree.Field inner part) r = apart_reached inner r
     apart_in (tree.Index inner index length) r = distinct_append (reached_cells g.items inner) (cells g.items true index) (nodes_of index) (apart_reached inner (base.rise_first g (nodes_of inner) (nodes_of index) r)) (apart_cells true index (base.rise_second g (nodes_of inner) (nodes_of index) r)) (keys_reached inner (λ (k : ℕ). OfNodes (λ m. (k == m) ≡ false) (nodes_of index)) (below_apart (nodes_of inner) (nodes_of index) (base.rise_across g (nodes_of inner) (nodes_of index) r))) (λ k q. keys_cells true index (λ m. (k == m) ≡ false) q)
     apart_in (tree.Deref inner) r = apart_reached inner r
@@ -231,10 +164,8 @@ module _ (g : Ground) where
     apart_in (tree.Closure closure captures) r = apart_all captures r
     apart_in (tree.NewBox content) r = apart_cells true content r
     apart_in (tree.Print operand) r = apart_cells true operand r
-    apart_in tree.Ask r = tt
     apart_in (tree.DropValue operand) r = apart_cells true operand r
     apart_in (tree.Forget operand) r = apart_cells true operand r
-    apart_in tree.Panic r = tt
     apart_in (tree.Borrow unique inner) r = apart_reached inner r
     apart_in (tree.Unsize trait_no operand) r = apart_cells true operand r
     apart_in (tree.Block statements tail) r = distinct_append (all_cells g.items statements) (cells_if_any g.items false tail) (nodes_if_any tail) (apart_all statements (base.rise_first g (nodes_among statements) (nodes_if_any tail) r)) (apart_any false tail (base.rise_second g (nodes_among statements) (nodes_if_any tail) r)) (keys_all statements (λ (k : ℕ). OfNodes (λ m. (k == m) ≡ false) (nodes_if_any tail)) (below_apart (nodes_among statements) (nodes_if_any tail) (base.rise_across g (nodes_among statements) (nodes_if_any tail) r))) (λ k q. keys_any false tail (λ m. (k == m) ≡ false) q)
@@ -248,17 +179,13 @@ module _ (g : Ground) where
     apart_in (tree.While condition inner) r = distinct_append (cells g.items true condition) (cells g.items true inner) (nodes_of inner) (apart_cells true condition (base.rise_first g (nodes_of condition) (nodes_of inner) r)) (apart_cells true inner (base.rise_second g (nodes_of condition) (nodes_of inner) r)) (keys_cells true condition (λ (k : ℕ). OfNodes (λ m. (k == m) ≡ false) (nodes_of inner)) (below_apart (nodes_of condition) (nodes_of inner) (base.rise_across g (nodes_of condition) (nodes_of inner) r))) (λ k q. keys_cells true inner (λ m. (k == m) ≡ false) q)
     apart_in (tree.WhileLet p scrutinee inner) r = distinct_append (cells g.items true p ++ reached_cells g.items scrutinee) (cells g.items true inner) (nodes_of inner) (distinct_append (cells g.items true p) (reached_cells g.items scrutinee) (nodes_of scrutinee) (apart_cells true p (base.rise_first g (nodes_of p) (nodes_of scrutinee) (base.rise_first g (nodes_of p ++ nodes_of scrutinee) (nodes_of inner) r))) (apart_reached scrutinee (base.rise_second g (nodes_of p) (nodes_of scrutinee) (base.rise_first g (nodes_of p ++ nodes_of scrutinee) (nodes_of inner) r))) (keys_cells true p (λ (k : ℕ). OfNodes (λ m. (k == m) ≡ false) (nodes_of scrutinee)) (below_apart (nodes_of p) (nodes_of scrutinee) (base.rise_across g (nodes_of p) (nodes_of scrutinee) (base.rise_first g (nodes_of p ++ nodes_of scrutinee) (nodes_of inner) r)))) (λ k q. keys_reached scrutinee (λ m. (k == m) ≡ false) q)) (apart_cells true inner (base.rise_second g (nodes_of p ++ nodes_of scrutinee) (nodes_of inner) r)) (keys_append (λ (k : ℕ). OfNodes (λ m. (k == m) ≡ false) (nodes_of inner)) _ _ (keys_cells true p (λ (k : ℕ). OfNodes (λ m. (k == m) ≡ false) (nodes_of inner)) (nodes_first (λ (k : ℕ). OfNodes (λ m. (k == m) ≡ false) (nodes_of inner)) (nodes_of p) (nodes_of scrutinee) (below_apart (nodes_of p ++ nodes_of scrutinee) (nodes_of inner) (base.rise_across g (nodes_of p ++ nodes_of scrutinee) (nodes_of inner) r)))) (keys_reached scrutinee (λ (k : ℕ). OfNodes (λ m. (k == m) ≡ false) (nodes_of inner)) (nodes_second (λ (k : ℕ). OfNodes (λ m. (k == m) ≡ false) (nodes_of inner)) (nodes_of p) (nodes_of scrutinee) (below_apart (nodes_of p ++ nodes_of scrutinee) (nodes_of inner) (base.rise_across g (nodes_of p ++ nodes_of scrutinee) (nodes_of inner) r))))) (λ k q. keys_cells true inner (λ m. (k == m) ≡ false) q)
     apart_in (tree.Break loop value_) r = apart_any false value_ r
-    apart_in (tree.Continue loop) r = tt
     apart_in (tree.Return value_) r = apart_any false value_ r
-    apart_in tree.Wildcard r = tt
-    apart_in (tree.Binding name) r = tt
-    apart_in (tree.NumberPattern value_) r = tt
-    apart_in (tree.TruthPattern value_) r = tt
     apart_in (tree.StructPattern fields) r = apart_fields fields r
     apart_in (tree.VariantPattern variant is_test fields) r = apart_fields fields r
     apart_in (tree.TuplePattern parts) r = apart_all parts r
     apart_in (tree.ArrayPattern elements) r = apart_all elements r
     apart_in (tree.OrPattern alternatives) r = apart_all alternatives r
+    apart_in other r = tt
 
     apart_all : (ns : Nodes) → base.Rise g (nodes_among ns) → Distinct (all_cells g.items ns)
     apart_all no_node r = tt
@@ -279,58 +206,7 @@ module _ (g : Ground) where
     apart_init : (p : Node) (n : MaybeNode) → base.Rise g (nodes_if_any n) → Distinct (initial_cells g.items p n)
     apart_init p absent r = tt
     apart_init (tree.node id at ty by (tree.Binding name)) (present value_) r = apart_cells false value_ r
-    apart_init (tree.node id at ty by (tree.Number number_)) (present value_) r = apart_reached value_ r
-    apart_init (tree.node id at ty by (tree.Truth number_)) (present value_) r = apart_reached value_ r
-    apart_init (tree.node id at ty by tree.UnitValue) (present value_) r = apart_reached value_ r
-    apart_init (tree.node id at ty by (tree.Variable key)) (present value_) r = apart_reached value_ r
-    apart_init (tree.node id at ty by (tree.Captured closure part name)) (present value_) r = apart_reached value_ r
-    apart_init (tree.node id at ty by (tree.Field inner part)) (present value_) r = apart_reached value_ r
-    apart_init (tree.node id at ty by (tree.Index inner index length)) (present value_) r = apart_reached value_ r
-    apart_init (tree.node id at ty by (tree.Deref inner)) (present value_) r = apart_reached value_ r
-    apart_init (tree.node id at ty by (tree.Not operand)) (present value_) r = apart_reached value_ r
-    apart_init (tree.node id at ty by (tree.Negate operand)) (present value_) r = apart_reached value_ r
-    apart_init (tree.node id at ty by (tree.Arithmetic operator left right)) (present value_) r = apart_reached value_ r
-    apart_init (tree.node id at ty by (tree.Comparison operator left right)) (present value_) r = apart_reached value_ r
-    apart_init (tree.node id at ty by (tree.And left right)) (present value_) r = apart_reached value_ r
-    apart_init (tree.node id at ty by (tree.Or left right)) (present value_) r = apart_reached value_ r
-    apart_init (tree.node id at ty by (tree.Assign target number_)) (present value_) r = apart_reached value_ r
-    apart_init (tree.node id at ty by (tree.Call called args)) (present value_) r = apart_reached value_ r
-    apart_init (tree.node id at ty by (tree.MethodCall called receiver args)) (present value_) r = apart_reached value_ r
-    apart_init (tree.node id at ty by (tree.VirtualCall trait_no method receiver args)) (present value_) r = apart_reached value_ r
-    apart_init (tree.node id at ty by (tree.ClosureCall called callee args)) (present value_) r = apart_reached value_ r
-    apart_init (tree.node id at ty by (tree.Make adt variant fields)) (present value_) r = apart_reached value_ r
-    apart_init (tree.node id at ty by (tree.Tuple parts)) (present value_) r = apart_reached value_ r
-    apart_init (tree.node id at ty by (tree.Array elements)) (present value_) r = apart_reached value_ r
-    apart_init (tree.node id at ty by (tree.Closure closure captures)) (present value_) r = apart_reached value_ r
-    apart_init (tree.node id at ty by (tree.NewBox content)) (present value_) r = apart_reached value_ r
-    apart_init (tree.node id at ty by (tree.Print operand)) (present value_) r = apart_reached value_ r
-    apart_init (tree.node id at ty by tree.Ask) (present value_) r = apart_reached value_ r
-    apart_init (tree.node id at ty by (tree.DropValue operand)) (present value_) r = apart_reached value_ r
-    apart_init (tree.node id at ty by (tree.Forget operand)) (present value_) r = apart_reached value_ r
-    apart_init (tree.node id at ty by tree.Panic) (present value_) r = apart_reached value_ r
-    apart_init (tree.node id at ty by (tree.Borrow unique inner)) (present value_) r = apart_reached value_ r
-    apart_init (tree.node id at ty by (tree.Unsize trait_no operand)) (present value_) r = apart_reached value_ r
-    apart_init (tree.node id at ty by (tree.Block statements tail)) (present value_) r = apart_reached value_ r
-    apart_init (tree.node id at ty by (tree.Let p initialiser)) (present value_) r = apart_reached value_ r
-    apart_init (tree.node id at ty by (tree.Evaluate expression)) (present value_) r = apart_reached value_ r
-    apart_init (tree.node id at ty by (tree.If condition consequent otherwise)) (present value_) r = apart_reached value_ r
-    apart_init (tree.node id at ty by (tree.IfLet p scrutinee consequent otherwise)) (present value_) r = apart_reached value_ r
-    apart_init (tree.node id at ty by (tree.Match scrutinee arms)) (present value_) r = apart_reached value_ r
-    apart_init (tree.node id at ty by (tree.Arm p guard inner)) (present value_) r = apart_reached value_ r
-    apart_init (tree.node id at ty by (tree.Loop inner)) (present value_) r = apart_reached value_ r
-    apart_init (tree.node id at ty by (tree.While condition inner)) (present value_) r = apart_reached value_ r
-    apart_init (tree.node id at ty by (tree.WhileLet p scrutinee inner)) (present value_) r = apart_reached value_ r
-    apart_init (tree.node id at ty by (tree.Break loop number_)) (present value_) r = apart_reached value_ r
-    apart_init (tree.node id at ty by (tree.Continue loop)) (present value_) r = apart_reached value_ r
-    apart_init (tree.node id at ty by (tree.Return number_)) (present value_) r = apart_reached value_ r
-    apart_init (tree.node id at ty by tree.Wildcard) (present value_) r = apart_reached value_ r
-    apart_init (tree.node id at ty by (tree.NumberPattern number_)) (present value_) r = apart_reached value_ r
-    apart_init (tree.node id at ty by (tree.TruthPattern number_)) (present value_) r = apart_reached value_ r
-    apart_init (tree.node id at ty by (tree.StructPattern fields)) (present value_) r = apart_reached value_ r
-    apart_init (tree.node id at ty by (tree.VariantPattern variant is_test fields)) (present value_) r = apart_reached value_ r
-    apart_init (tree.node id at ty by (tree.TuplePattern parts)) (present value_) r = apart_reached value_ r
-    apart_init (tree.node id at ty by (tree.ArrayPattern elements)) (present value_) r = apart_reached value_ r
-    apart_init (tree.node id at ty by (tree.OrPattern alternatives)) (present value_) r = apart_reached value_ r
+    apart_init (tree.node id at ty by other) (present value_) r = apart_reached value_ r
 
   -- ---- parameters
   abbrev entry_of_param : ParamTree → Entry

@@ -119,17 +119,7 @@ module _ (g : Ground) where
       of_adt : (o : Option Adt) → adt_has_drop_impl o ≡ is_some (with_drop_body n (option_map_or (λ (adt : Adt). adt.drop_body) o None))
       of_adt None = refl
       of_adt (Some adt) = of_body adt.drop_body
-  no_impl (Ty.Int kind) = refl
-  no_impl Ty.Bool = refl
-  no_impl Ty.Unit = refl
-  no_impl Ty.Never = refl
-  no_impl (Ty.Tuple parts) = refl
-  no_impl (Ty.Array element count) = refl
-  no_impl (Ty.Boxed content) = refl
-  no_impl (Ty.Dyn n) = refl
-  no_impl (Ty.Shared to) = refl
-  no_impl (Ty.Unique to) = refl
-  no_impl (Ty.Closure n) = refl
+  no_impl other = refl
 
   with_fields : (ty : Ty) → types.fields_in g.items ty ≡ true → places.is_reference (Some ty) ≡ false
   with_fields (Ty.Shared to) e = absurd (untrue e)

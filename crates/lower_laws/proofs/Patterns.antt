@@ -20,7 +20,7 @@ use Rattle.mir_ty.specs.Facts.{is_copy, has_drop_impl, ty_has_drop_impl, adt_has
 use Rattle.mir_ty.specs.ItemTable.{type_at}
 use Rattle.mir_ty.specs.Parts.{field_ty, parts_of}
 use Rattle.store_model.specs.Concrete.Drops.{with_drop_body}
-use Rattle.store_model.specs.Places.Place.{Step, ToPart, ToField, Place, whole_local, step_ty}
+use Rattle.store_model.specs.Places.Place.{Step, ToPart, ToField, Place, step_ty}
 use Rattle.store_model.specs.Places.Place as places
 use Rattle.store_model.specs.Places.TypeForms as forms
 use Rattle.typed_tree.specs.declared.node.Use.{Use}
@@ -31,7 +31,7 @@ use Rattle.src_meaning.specs.Scopes.{Entry}
 use Rattle.src_meaning.specs.Shape.{head, moves, BoundName, IsNumber, IsTruth, PatternTests, no_test, a_test, followed_by, kind_of, shape, shape_of, in_fields, in_parts, alternatives_at, extended}
 use Rattle.well_typed.specs.Claim.{Holds}
 use Rattle.well_typed.specs.Patterns as patterns
-use Rattle.well_typed.specs.Patterns.{Matched, binding_name, binding_entry, entries_of}
+use Rattle.well_typed.specs.Patterns.{Matched}
 use Rattle.well_typed.specs.Places as scopes
 use Rattle.well_typed.specs.Types as types
 use Rattle.lower_rules.specs.Build as build
@@ -62,18 +62,8 @@ first_so {A} test xs y e = by (nat_lt (position_or_len test xs) (length xs)) e
     by false h = absurd (none-some y (sym (slice_get_past xs (length xs) (let l : length xs ≤ length xs = omega arith in l)) ∙ h))
 
 is_bool_is : (ty : Ty) → forms.is_bool (Some ty) ≡ true → ty ≡ Ty.Bool
-is_bool_is (Ty.Int kind) e = absurd (untrue e)
 is_bool_is Ty.Bool e = refl
-is_bool_is Ty.Unit e = absurd (untrue e)
-is_bool_is Ty.Never e = absurd (untrue e)
-is_bool_is (Ty.Adt n) e = absurd (untrue e)
-is_bool_is (Ty.Tuple parts) e = absurd (untrue e)
-is_bool_is (Ty.Array element count) e = absurd (untrue e)
-is_bool_is (Ty.Boxed content) e = absurd (untrue e)
-is_bool_is (Ty.Dyn n) e = absurd (untrue e)
-is_bool_is (Ty.Shared to) e = absurd (untrue e)
-is_bool_is (Ty.Unique to) e = absurd (untrue e)
-is_bool_is (Ty.Closure n) e = absurd (untrue e)
+is_bool_is other e = absurd (untrue e)
 
 pub apart_over : (n m : ℕ) → nat_lt n m ≡ true → (m == n) ≡ false
 apart_over n m e = elim (eqb_tells m n) [ inl same ↦ absurd (let l = ltb-true n m e in let s = same.1 in let never : ⊥ = omega (l, s, arith) in never) | inr other ↦ other.0 ]
@@ -300,50 +290,7 @@ module _ (g : Ground) where
         let a = found (types.array_of g.items ty) _ h.1 in
         parts_ok elements m (replicate a.0.1 a.0.0) 0 t.0 ty a.2 (base.cells_second g _ (all_cells g.items elements) c) place t.1 (array_steps ty t.0 t.1.known a.0 a.1) (array_lets_go ty t.0 t.1.known a.0 a.1) free
     row_ok (tree.OrPattern alternatives) id ty by m h c place t free = ((any_ok alternatives m ty h.1.1 (base.cells_second g _ (all_cells g.items alternatives) c) place t free, tt), tt)
-    row_ok (tree.Number value) id ty by m h c place t free = absurd (untrue h)
-    row_ok (tree.Truth value) id ty by m h c place t free = absurd (untrue h)
-    row_ok tree.UnitValue id ty by m h c place t free = absurd (untrue h)
-    row_ok (tree.Variable key) id ty by m h c place t free = absurd (untrue h)
-    row_ok (tree.Captured closure part name) id ty by m h c place t free = absurd (untrue h)
-    row_ok (tree.Field base part) id ty by m h c place t free = absurd (untrue h)
-    row_ok (tree.Index base index count) id ty by m h c place t free = absurd (untrue h)
-    row_ok (tree.Deref base) id ty by m h c place t free = absurd (untrue h)
-    row_ok (tree.Not operand) id ty by m h c place t free = absurd (untrue h)
-    row_ok (tree.Negate operand) id ty by m h c place t free = absurd (untrue h)
-    row_ok (tree.Arithmetic operator left right) id ty by m h c place t free = absurd (untrue h)
-    row_ok (tree.Comparison operator left right) id ty by m h c place t free = absurd (untrue h)
-    row_ok (tree.And left right) id ty by m h c place t free = absurd (untrue h)
-    row_ok (tree.Or left right) id ty by m h c place t free = absurd (untrue h)
-    row_ok (tree.Assign target value) id ty by m h c place t free = absurd (untrue h)
-    row_ok (tree.Call callee args) id ty by m h c place t free = absurd (untrue h)
-    row_ok (tree.MethodCall callee receiver args) id ty by m h c place t free = absurd (untrue h)
-    row_ok (tree.VirtualCall trait_no method receiver args) id ty by m h c place t free = absurd (untrue h)
-    row_ok (tree.ClosureCall callee closure args) id ty by m h c place t free = absurd (untrue h)
-    row_ok (tree.Make adt variant fields) id ty by m h c place t free = absurd (untrue h)
-    row_ok (tree.Tuple parts) id ty by m h c place t free = absurd (untrue h)
-    row_ok (tree.Array elements) id ty by m h c place t free = absurd (untrue h)
-    row_ok (tree.Closure closure captures) id ty by m h c place t free = absurd (untrue h)
-    row_ok (tree.NewBox content) id ty by m h c place t free = absurd (untrue h)
-    row_ok (tree.Print operand) id ty by m h c place t free = absurd (untrue h)
-    row_ok tree.Ask id ty by m h c place t free = absurd (untrue h)
-    row_ok (tree.DropValue operand) id ty by m h c place t free = absurd (untrue h)
-    row_ok (tree.Forget operand) id ty by m h c place t free = absurd (untrue h)
-    row_ok tree.Panic id ty by m h c place t free = absurd (untrue h)
-    row_ok (tree.Borrow unique base) id ty by m h c place t free = absurd (untrue h)
-    row_ok (tree.Unsize trait_no operand) id ty by m h c place t free = absurd (untrue h)
-    row_ok (tree.Block stmts tail) id ty by m h c place t free = absurd (untrue h)
-    row_ok (tree.Let pattern initialiser) id ty by m h c place t free = absurd (untrue h)
-    row_ok (tree.Evaluate expression) id ty by m h c place t free = absurd (untrue h)
-    row_ok (tree.If condition consequent otherwise) id ty by m h c place t free = absurd (untrue h)
-    row_ok (tree.IfLet pattern scrutinee consequent otherwise) id ty by m h c place t free = absurd (untrue h)
-    row_ok (tree.Match scrutinee arms) id ty by m h c place t free = absurd (untrue h)
-    row_ok (tree.Arm pattern guard inner) id ty by m h c place t free = absurd (untrue h)
-    row_ok (tree.Loop inner) id ty by m h c place t free = absurd (untrue h)
-    row_ok (tree.While condition inner) id ty by m h c place t free = absurd (untrue h)
-    row_ok (tree.WhileLet pattern scrutinee inner) id ty by m h c place t free = absurd (untrue h)
-    row_ok (tree.Break loop value) id ty by m h c place t free = absurd (untrue h)
-    row_ok (tree.Continue loop) id ty by m h c place t free = absurd (untrue h)
-    row_ok (tree.Return value) id ty by m h c place t free = absurd (untrue h)
+    row_ok other id ty by m h c place t free = absurd (untrue h)
 
     fields_ok : (fs : Fields) (m : Matched) (ty : TyId) (v : ℕ) (step : ℕ → Step) → Holds (patterns.field_patterns g.items m ty v fs) → Cells (cells_of_fields g.items fs) → (place : Place) → LeadTo step v place ty → ((n : ℕ) → Frees m.may_move (extended (step n) place)) →
         Shaped ((in_fields g.items fs step).tests place) ((in_fields g.items fs step).bindings place)

@@ -39,18 +39,8 @@ untrue e = let never : false ≡ true = e in cc
 -- a type that passes a test that `!` does not pass is not `!`
 never_is : (o : Option Ty) → is_never o ≡ true → o ≡ Some Ty.Never
 never_is (Some Ty.Never) h = refl
-never_is (Some Ty.Unit) h = absurd (untrue h)
-never_is (Some Ty.Bool) h = absurd (untrue h)
-never_is (Some (Ty.Int kind)) h = absurd (untrue h)
-never_is (Some (Ty.Tuple parts)) h = absurd (untrue h)
-never_is (Some (Ty.Array element count)) h = absurd (untrue h)
-never_is (Some (Ty.Adt n)) h = absurd (untrue h)
-never_is (Some (Ty.Closure n)) h = absurd (untrue h)
-never_is (Some (Ty.Boxed inside)) h = absurd (untrue h)
-never_is (Some (Ty.Shared to)) h = absurd (untrue h)
-never_is (Some (Ty.Unique to)) h = absurd (untrue h)
-never_is (Some (Ty.Dyn n)) h = absurd (untrue h)
 never_is None h = absurd (untrue h)
+never_is (Some other) h = absurd (untrue h)
 
 pub made : (o : Option Ty) (test : Option Ty → Bool) → test (Some Ty.Never) ≡ false → test o ≡ true → is_never o ≡ false
 made o test none passes = by (is_never o) refl
@@ -191,17 +181,7 @@ module _ (items : ItemTable) (body : Body) where
       none : (l : Option Ty) → are_compared l (Some Ty.Never) ≡ false
       none None = refl
       none (Some Ty.Never) = refl
-      none (Some Ty.Unit) = refl
-      none (Some Ty.Bool) = refl
-      none (Some (Ty.Int kind)) = refl
-      none (Some (Ty.Tuple parts)) = refl
-      none (Some (Ty.Array element count)) = refl
-      none (Some (Ty.Adt n)) = refl
-      none (Some (Ty.Closure n)) = refl
-      none (Some (Ty.Boxed inside)) = refl
-      none (Some (Ty.Shared to)) = refl
-      none (Some (Ty.Unique to)) = refl
-      none (Some (Ty.Dyn n)) = refl
+      none (Some other) = refl
 
   referent_of_never : (unique : Bool) → referent unique (Some Ty.Never) ≡ None
   referent_of_never true = refl
@@ -441,19 +421,7 @@ module _ (items : ItemTable) (body : Body) where
     stmt_comes : (earlier : List PathAction) → ends_any earlier ≡ false → (n line : ℕ) (stmt : Stmt) (stmts : List Stmt) (term : Term) → StmtCopies stmt → Behind f own stmt stmts term → stmt_has_types items body.locals stmt ≡ true →
         Comes (IsStop stmts term) earlier (at_line n line (stmt_uses stmt))
     stmt_comes earlier none n line (Stmt.Put to from) stmts term copies behind typed = put earlier none n line to from stmts term copies behind typed
-    stmt_comes earlier none n line (Stmt.Compare to op left right) stmts term copies behind typed = calm earlier _ (calm_line n line (stmt_uses (Stmt.Compare to op left right)) (calm_stmt (Stmt.Compare to op left right) copies typed refl))
-    stmt_comes earlier none n line (Stmt.Not to operand) stmts term copies behind typed = calm earlier _ (calm_line n line (stmt_uses (Stmt.Not to operand)) (calm_stmt (Stmt.Not to operand) copies typed refl))
-    stmt_comes earlier none n line (Stmt.Tuple to parts) stmts term copies behind typed = calm earlier _ (calm_line n line (stmt_uses (Stmt.Tuple to parts)) (calm_stmt (Stmt.Tuple to parts) copies typed refl))
-    stmt_comes earlier none n line (Stmt.Array to parts) stmts term copies behind typed = calm earlier _ (calm_line n line (stmt_uses (Stmt.Array to parts)) (calm_stmt (Stmt.Array to parts) copies typed refl))
-    stmt_comes earlier none n line (Stmt.Make to adt variant parts) stmts term copies behind typed = calm earlier _ (calm_line n line (stmt_uses (Stmt.Make to adt variant parts)) (calm_stmt (Stmt.Make to adt variant parts) copies typed refl))
-    stmt_comes earlier none n line (Stmt.Close to closure parts) stmts term copies behind typed = calm earlier _ (calm_line n line (stmt_uses (Stmt.Close to closure parts)) (calm_stmt (Stmt.Close to closure parts) copies typed refl))
-    stmt_comes earlier none n line (Stmt.NewBox to operand) stmts term copies behind typed = calm earlier _ (calm_line n line (stmt_uses (Stmt.NewBox to operand)) (calm_stmt (Stmt.NewBox to operand) copies typed refl))
-    stmt_comes earlier none n line (Stmt.Unsize to trait_no from) stmts term copies behind typed = calm earlier _ (calm_line n line (stmt_uses (Stmt.Unsize to trait_no from)) (calm_stmt (Stmt.Unsize to trait_no from) copies typed refl))
-    stmt_comes earlier none n line (Stmt.Borrow to unique of) stmts term copies behind typed = calm earlier _ (calm_line n line (stmt_uses (Stmt.Borrow to unique of)) (calm_stmt (Stmt.Borrow to unique of) copies typed refl))
-    stmt_comes earlier none n line (Stmt.Touch place) stmts term copies behind typed = calm earlier _ (calm_line n line (stmt_uses (Stmt.Touch place)) (calm_stmt (Stmt.Touch place) copies typed refl))
-    stmt_comes earlier none n line (Stmt.Print operand) stmts term copies behind typed = calm earlier _ (calm_line n line (stmt_uses (Stmt.Print operand)) (calm_stmt (Stmt.Print operand) copies typed refl))
-    stmt_comes earlier none n line (Stmt.Forget operand) stmts term copies behind typed = calm earlier _ (calm_line n line (stmt_uses (Stmt.Forget operand)) (calm_stmt (Stmt.Forget operand) copies typed refl))
-    stmt_comes earlier none n line (Stmt.Free place) stmts term copies behind typed = calm earlier _ (calm_line n line (stmt_uses (Stmt.Free place)) (calm_stmt (Stmt.Free place) copies typed refl))
+    stmt_comes earlier none n line other stmts term copies behind typed = calm earlier _ (calm_line n line (stmt_uses other) (calm_stmt other copies typed refl))
 
     -- ---- terminators, before a way out is taken
     calm_term : (term : Term) → TermCopies term → term_has_types items body.locals term ≡ true → AreCalm (term_uses term)

@@ -19,7 +19,7 @@ use Rattle.cfg_graph.specs.Moves.Actions.{actions_on}
 use Rattle.cfg_graph.specs.Moves.BadUses.{BadUse, may_not_store}
 use Rattle.cfg_graph.specs.Moves.Gone.{PathAction}
 use Rattle.cfg_graph.specs.Places.{named_step}
-use Rattle.cfg_graph.specs.Uses.{PlaceUse, Copies, Moves, Borrows, Touches, Tests, Stores, Drops, Frees, place_used, places_of_stmt}
+use Rattle.cfg_graph.specs.Uses.{PlaceUse, Stores, Drops, place_used, places_of_stmt}
 use Rattle.mir_ty.specs.ItemTable.{ItemTable}
 use Rattle.store_model.specs.Places.Place.{Step}
 use Rattle.typed_tree.specs.Nodes.{body_nodes, first_with}
@@ -72,14 +72,8 @@ module _ (items : ItemTable) (body : Body) where
 
 -- ---- the line by which it is told
 own_line : (how : PlaceUse) → is_dropping how ≡ false → (block : Option Block) (own : LineOfBody) → told_by how block own ≡ own
-own_line Copies h block own = refl
-own_line Moves h block own = refl
-own_line Borrows h block own = refl
-own_line Touches h block own = refl
-own_line Tests h block own = refl
-own_line Stores h block own = refl
 own_line Drops h block own = absurd (false≢true (sym h))
-own_line Frees h block own = refl
+own_line other h block own = refl
 
 has_one : (operand : List (PlaceUse × Place)) (place : Place) → map place_used (operand ++ (Stores, place) ∷ []) ≢ []
 has_one [] place e = cc

@@ -33,7 +33,7 @@ use Rattle.well_typed.specs.Claim.{Claim, Holds, fact, nothing, ◌&◌}
 use Rattle.well_typed.specs.Names.{do_rise}
 use Rattle.well_typed.specs.Nodes as typing
 use Rattle.well_typed.specs.Patterns as patterns
-use Rattle.well_typed.specs.Patterns.{Matched, entries_of, binding_entry}
+use Rattle.well_typed.specs.Patterns.{Matched, entries_of}
 use Rattle.well_typed.specs.Places.{InScope, Context, Wanted, entry_with, form_of}
 use Rattle.well_typed.specs.Program.{WellTyped, is_body, is_inside, closure_with}
 use Rattle.well_typed.specs.Types as types
@@ -41,7 +41,7 @@ use Rattle.lower_rules.specs.Spots.{body_ways}
 use Rattle.lower_rules.specs.Build.{LoweringFrame, BlockRest, MadeBlock, ending, reserved}
 use Rattle.lower_rules.specs.Laws.{NamesItsLoops}
 use Rattle.lower_rules.specs.Lower as lower
-use Rattle.lower_rules.specs.Lower.{body_of, frame}
+use Rattle.lower_rules.specs.Lower.{body_of}
 use Rattle.lower_rules.proofs.Bodies.{lowered_is_ranked, lowered_keeps_to_cleanup}
 use Rattle.lower_rules.proofs.Lines as lines
 use Rattle.lower_rules.proofs.Stops as stops
@@ -49,9 +49,10 @@ use Rattle.lower_rules.proofs.Typed.{well_typed_names_loops}
 use Rattle.lower_laws.specs.Lines.{LocalsHaveNoFault, LinesHaveNoFault, LoweredLinesHaveNoFault}
 use Rattle.lower_rules.proofs.TypedLines as typed_lines
 use Rattle.lower_laws.proofs.Base as base
-use Rattle.lower_laws.proofs.Base.{Ground, untrue, and_first, and_second, same_id, found}
+use Rattle.lower_laws.proofs.Base.{Ground, untrue, and_first, and_second, same_id}
 use Rattle.lower_laws.proofs.LineCells as cells_apart
 use Rattle.lower_laws.proofs.Facts as facts
+use Rattle.lower_laws.proofs.FormTypes as form_types
 use Rattle.lower_laws.proofs.Forms as forms_of
 use Rattle.lower_laws.proofs.Names as names
 use Rattle.lower_laws.proofs.Patterns as pattern_lines
@@ -165,50 +166,7 @@ module _ (p : ProgramTree) (w : WellTyped p) (n : ℕ) (body : BodyTree) (at_n :
   pattern_cells (tree.node id at ty by (tree.TuplePattern parts)) want h k d = base.by_never g ty (λ v. simp (v) d) (λ v. simp (v) d)
   pattern_cells (tree.node id at ty by (tree.ArrayPattern elements)) want h k d = base.by_never g ty (λ v. simp (v) d) (λ v. simp (v) d)
   pattern_cells (tree.node id at ty by (tree.OrPattern alternatives)) want h k d = base.by_never g ty (λ v. simp (v) d) (λ v. simp (v) d)
-  pattern_cells (tree.node id at ty by (tree.Number value)) want h k d = absurd (untrue h.1)
-  pattern_cells (tree.node id at ty by (tree.Truth value)) want h k d = absurd (untrue h.1)
-  pattern_cells (tree.node id at ty by tree.UnitValue) want h k d = absurd (untrue h.1)
-  pattern_cells (tree.node id at ty by (tree.Variable key)) want h k d = absurd (untrue h.1)
-  pattern_cells (tree.node id at ty by (tree.Captured closure part name)) want h k d = absurd (untrue h.1)
-  pattern_cells (tree.node id at ty by (tree.Field base part)) want h k d = absurd (untrue h.1)
-  pattern_cells (tree.node id at ty by (tree.Index base index count)) want h k d = absurd (untrue h.1)
-  pattern_cells (tree.node id at ty by (tree.Deref base)) want h k d = absurd (untrue h.1)
-  pattern_cells (tree.node id at ty by (tree.Not operand)) want h k d = absurd (untrue h.1)
-  pattern_cells (tree.node id at ty by (tree.Negate operand)) want h k d = absurd (untrue h.1)
-  pattern_cells (tree.node id at ty by (tree.Arithmetic operator left right)) want h k d = absurd (untrue h.1)
-  pattern_cells (tree.node id at ty by (tree.Comparison operator left right)) want h k d = absurd (untrue h.1)
-  pattern_cells (tree.node id at ty by (tree.And left right)) want h k d = absurd (untrue h.1)
-  pattern_cells (tree.node id at ty by (tree.Or left right)) want h k d = absurd (untrue h.1)
-  pattern_cells (tree.node id at ty by (tree.Assign target value)) want h k d = absurd (untrue h.1)
-  pattern_cells (tree.node id at ty by (tree.Call callee args)) want h k d = absurd (untrue h.1)
-  pattern_cells (tree.node id at ty by (tree.MethodCall callee receiver args)) want h k d = absurd (untrue h.1)
-  pattern_cells (tree.node id at ty by (tree.VirtualCall trait_no method receiver args)) want h k d = absurd (untrue h.1)
-  pattern_cells (tree.node id at ty by (tree.ClosureCall callee closure args)) want h k d = absurd (untrue h.1)
-  pattern_cells (tree.node id at ty by (tree.Make adt variant fields)) want h k d = absurd (untrue h.1)
-  pattern_cells (tree.node id at ty by (tree.Tuple parts)) want h k d = absurd (untrue h.1)
-  pattern_cells (tree.node id at ty by (tree.Array elements)) want h k d = absurd (untrue h.1)
-  pattern_cells (tree.node id at ty by (tree.Closure closure captures)) want h k d = absurd (untrue h.1)
-  pattern_cells (tree.node id at ty by (tree.NewBox content)) want h k d = absurd (untrue h.1)
-  pattern_cells (tree.node id at ty by (tree.Print operand)) want h k d = absurd (untrue h.1)
-  pattern_cells (tree.node id at ty by tree.Ask) want h k d = absurd (untrue h.1)
-  pattern_cells (tree.node id at ty by (tree.DropValue operand)) want h k d = absurd (untrue h.1)
-  pattern_cells (tree.node id at ty by (tree.Forget operand)) want h k d = absurd (untrue h.1)
-  pattern_cells (tree.node id at ty by tree.Panic) want h k d = absurd (untrue h.1)
-  pattern_cells (tree.node id at ty by (tree.Borrow unique base)) want h k d = absurd (untrue h.1)
-  pattern_cells (tree.node id at ty by (tree.Unsize trait_no operand)) want h k d = absurd (untrue h.1)
-  pattern_cells (tree.node id at ty by (tree.Block stmts tail)) want h k d = absurd (untrue h.1)
-  pattern_cells (tree.node id at ty by (tree.Let pattern initialiser)) want h k d = absurd (untrue h.1)
-  pattern_cells (tree.node id at ty by (tree.Evaluate expression)) want h k d = absurd (untrue h.1)
-  pattern_cells (tree.node id at ty by (tree.If condition consequent otherwise)) want h k d = absurd (untrue h.1)
-  pattern_cells (tree.node id at ty by (tree.IfLet pattern scrutinee consequent otherwise)) want h k d = absurd (untrue h.1)
-  pattern_cells (tree.node id at ty by (tree.Match scrutinee arms)) want h k d = absurd (untrue h.1)
-  pattern_cells (tree.node id at ty by (tree.Arm pattern guard inner)) want h k d = absurd (untrue h.1)
-  pattern_cells (tree.node id at ty by (tree.Loop inner)) want h k d = absurd (untrue h.1)
-  pattern_cells (tree.node id at ty by (tree.While condition inner)) want h k d = absurd (untrue h.1)
-  pattern_cells (tree.node id at ty by (tree.WhileLet pattern scrutinee inner)) want h k d = absurd (untrue h.1)
-  pattern_cells (tree.node id at ty by (tree.Break loop value)) want h k d = absurd (untrue h.1)
-  pattern_cells (tree.node id at ty by (tree.Continue loop)) want h k d = absurd (untrue h.1)
-  pattern_cells (tree.node id at ty by (tree.Return value)) want h k d = absurd (untrue h.1)
+  pattern_cells (tree.node id at ty by other) want h k d = absurd (untrue h.1)
 
   params_sound : (tys : List TyId) (params : List ParamTree) → Holds (ParamsAre tys params) → base.CellsOk g (map entry_of_param params) → base.CellsOk g (cells_of_params params) → base.Sound g (lower.params_entered F params)
   params_sound tys [] h c d = base.nothing_done g
@@ -252,58 +210,7 @@ module _ (p : ProgramTree) (w : WellTyped p) (n : ℕ) (body : BodyTree) (at_n :
   -- a block has no cell of its own
   own_cells : (q : Node) → IsBlock (form_of q) ≡ true → base.CellsOk g (cells_in p.items (form_of q)) → base.CellsOk g (cells p.items false q)
   own_cells (tree.node id at ty by (tree.Block stmts tail)) h c = base.by_never g ty (λ v. simp (v) c) (λ v. simp (v) c)
-  own_cells (tree.node id at ty by (tree.Number value)) h c = absurd (untrue h)
-  own_cells (tree.node id at ty by (tree.Truth value)) h c = absurd (untrue h)
-  own_cells (tree.node id at ty by tree.UnitValue) h c = absurd (untrue h)
-  own_cells (tree.node id at ty by (tree.Variable key)) h c = absurd (untrue h)
-  own_cells (tree.node id at ty by (tree.Captured closure part name)) h c = absurd (untrue h)
-  own_cells (tree.node id at ty by (tree.Field base part)) h c = absurd (untrue h)
-  own_cells (tree.node id at ty by (tree.Index base index count)) h c = absurd (untrue h)
-  own_cells (tree.node id at ty by (tree.Deref base)) h c = absurd (untrue h)
-  own_cells (tree.node id at ty by (tree.Not operand)) h c = absurd (untrue h)
-  own_cells (tree.node id at ty by (tree.Negate operand)) h c = absurd (untrue h)
-  own_cells (tree.node id at ty by (tree.Arithmetic operator left right)) h c = absurd (untrue h)
-  own_cells (tree.node id at ty by (tree.Comparison operator left right)) h c = absurd (untrue h)
-  own_cells (tree.node id at ty by (tree.And left right)) h c = absurd (untrue h)
-  own_cells (tree.node id at ty by (tree.Or left right)) h c = absurd (untrue h)
-  own_cells (tree.node id at ty by (tree.Assign target value)) h c = absurd (untrue h)
-  own_cells (tree.node id at ty by (tree.Call callee args)) h c = absurd (untrue h)
-  own_cells (tree.node id at ty by (tree.MethodCall callee receiver args)) h c = absurd (untrue h)
-  own_cells (tree.node id at ty by (tree.VirtualCall trait_no method receiver args)) h c = absurd (untrue h)
-  own_cells (tree.node id at ty by (tree.ClosureCall callee closure args)) h c = absurd (untrue h)
-  own_cells (tree.node id at ty by (tree.Make adt variant fields)) h c = absurd (untrue h)
-  own_cells (tree.node id at ty by (tree.Tuple parts)) h c = absurd (untrue h)
-  own_cells (tree.node id at ty by (tree.Array elements)) h c = absurd (untrue h)
-  own_cells (tree.node id at ty by (tree.Closure closure captures)) h c = absurd (untrue h)
-  own_cells (tree.node id at ty by (tree.NewBox content)) h c = absurd (untrue h)
-  own_cells (tree.node id at ty by (tree.Print operand)) h c = absurd (untrue h)
-  own_cells (tree.node id at ty by tree.Ask) h c = absurd (untrue h)
-  own_cells (tree.node id at ty by (tree.DropValue operand)) h c = absurd (untrue h)
-  own_cells (tree.node id at ty by (tree.Forget operand)) h c = absurd (untrue h)
-  own_cells (tree.node id at ty by tree.Panic) h c = absurd (untrue h)
-  own_cells (tree.node id at ty by (tree.Borrow unique base)) h c = absurd (untrue h)
-  own_cells (tree.node id at ty by (tree.Unsize trait_no operand)) h c = absurd (untrue h)
-  own_cells (tree.node id at ty by (tree.Let pattern initialiser)) h c = absurd (untrue h)
-  own_cells (tree.node id at ty by (tree.Evaluate expression)) h c = absurd (untrue h)
-  own_cells (tree.node id at ty by (tree.If condition consequent otherwise)) h c = absurd (untrue h)
-  own_cells (tree.node id at ty by (tree.IfLet pattern scrutinee consequent otherwise)) h c = absurd (untrue h)
-  own_cells (tree.node id at ty by (tree.Match scrutinee arms)) h c = absurd (untrue h)
-  own_cells (tree.node id at ty by (tree.Arm pattern guard inner)) h c = absurd (untrue h)
-  own_cells (tree.node id at ty by (tree.Loop inner)) h c = absurd (untrue h)
-  own_cells (tree.node id at ty by (tree.While condition inner)) h c = absurd (untrue h)
-  own_cells (tree.node id at ty by (tree.WhileLet pattern scrutinee inner)) h c = absurd (untrue h)
-  own_cells (tree.node id at ty by (tree.Break loop value)) h c = absurd (untrue h)
-  own_cells (tree.node id at ty by (tree.Continue loop)) h c = absurd (untrue h)
-  own_cells (tree.node id at ty by (tree.Return value)) h c = absurd (untrue h)
-  own_cells (tree.node id at ty by tree.Wildcard) h c = absurd (untrue h)
-  own_cells (tree.node id at ty by (tree.Binding name)) h c = absurd (untrue h)
-  own_cells (tree.node id at ty by (tree.NumberPattern value)) h c = absurd (untrue h)
-  own_cells (tree.node id at ty by (tree.TruthPattern value)) h c = absurd (untrue h)
-  own_cells (tree.node id at ty by (tree.StructPattern fields)) h c = absurd (untrue h)
-  own_cells (tree.node id at ty by (tree.VariantPattern variant is_test fields)) h c = absurd (untrue h)
-  own_cells (tree.node id at ty by (tree.TuplePattern parts)) h c = absurd (untrue h)
-  own_cells (tree.node id at ty by (tree.ArrayPattern elements)) h c = absurd (untrue h)
-  own_cells (tree.node id at ty by (tree.OrPattern alternatives)) h c = absurd (untrue h)
+  own_cells (tree.node id at ty by other) h c = absurd (untrue h)
 
   in_scope : (es : List InScope) → names.Keyed g es → (key : ℕ) (e : InScope) → entry_with key es ≡ Some e → base.Typed g (whole_local key) e.ty
   in_scope [] h key e is = absurd (none-some e is)
@@ -349,7 +256,7 @@ module _ (p : ProgramTree) (w : WellTyped p) (n : ℕ) (body : BodyTree) (at_n :
   block_sound closure self params keyed h =
       let k = forms_of.node_good g (context closure params) body.block (Wanted body.answer) refl h (base.rise_second g (param_nodes body.params) (nodes_of body.block) rise) in
       k.evaluates false (own_cells body.block typed.2.1.1.1.1.1.0 block_cells) around (block_fine closure self params keyed) false (Into (answer_key body))
-      (λ m. elim (forms_of.wanted_fits g (context closure params) body.answer body.block h) [
+      (λ m. elim (form_types.wanted_fits g (context closure params) body.answer body.block h) [
         | inl same ↦ subst (base.KeyIs g (answer_key body)) (sym (k.ty_is ∙ same)) answer_cell
         | inr never ↦ absurd (base.never_and_made g (lower.lower F body.block).head.ty (subst (base.Never g) (sym k.ty_is) never) m)
       ])
@@ -408,12 +315,12 @@ module _ (p : ProgramTree) (w : WellTyped p) (n : ℕ) (body : BodyTree) (at_n :
   W = base.wanted g
 
   abbrev last : BlockRest
-  last = ending (Term.Goto 1) (answer_key body)
+  last = ending (Term.Goto 1) 0
 
   begun_ok : lines.Ok F W (lower.start F body)
-  begun_ok = lines.closed_ok F W Kind.Plain (ending Term.Return (answer_key body)) (reserved (record { blocks = []; chains = [] })) (lines.reserved_ok F W (record { blocks = []; chains = [] }) none) (tt, (typed_lines.return_ok p.items (length p.bodies) (base.B g), refl))
+  begun_ok = lines.closed_ok F W Kind.Plain (ending Term.Return (answer_key body)) (reserved (record { blocks = []; shared = λ i. [] })) (lines.reserved_ok F W (record { blocks = []; shared = λ i. [] }) none) (tt, (typed_lines.return_ok p.items (length p.bodies) (base.B g), refl))
     where
-      none : lines.Ok F W (record { blocks = []; chains = [] })
+      none : lines.Ok F W (record { blocks = []; shared = λ i. [] })
       none = record { blocks = λ n m e. absurd (none-some (Some m) e) }
 
   built_ok : lines.Ok F W (lower.built F body)
@@ -493,19 +400,9 @@ module _ (p : ProgramTree) (w : WellTyped p) (n : ℕ) (body : BodyTree) (at_n :
       by m c (Some to) q = turns m c to q (is_turn to) refl
 
   numbers_same : (term : Term) → typed_lines.numbers_exist p.items (length p.bodies) (base.B g) term ≡ true → term_numbers_exist p.items (length p.bodies) term ≡ true
-  numbers_same (Term.Goto block) h = refl
-  numbers_same (Term.If on if_yes if_no) h = refl
-  numbers_same (Term.Case on variant if_yes if_no) h = refl
-  numbers_same (Term.Math to op left right next unwind) h = refl
-  numbers_same (Term.Negate to of next unwind) h = refl
-  numbers_same (Term.Bounds index count next unwind) h = refl
   numbers_same (Term.Call to callee args next unwind) h = h
   numbers_same (Term.Virtual to trait_no method args next unwind) h = h
-  numbers_same (Term.Ask to next unwind) h = refl
-  numbers_same (Term.DropAt place next unwind) h = refl
-  numbers_same (Term.Panic why unwind) h = refl
-  numbers_same Term.Return h = refl
-  numbers_same Term.Resume h = refl
+  numbers_same other h = refl
 
   none_broken : (a b c d e : Bool) → a ≡ true → b ≡ true → c ≡ true → d ≡ true → e ≡ true → broken ((1, a) ∷ (2, b) ∷ (3, c) ∷ (4, d) ∷ (5, e) ∷ []) ≡ []
   none_broken true true true true true h1 h2 h3 h4 h5 = refl

@@ -351,24 +351,9 @@ module _ (f : LoweringFrame) (words : List CodeWord) (m : Marking) where
 module _ (f : LoweringFrame) where
   length_marked : (word : CodeWord) (m : Marking) → length (marked f word m).marks ≡ suc (length m.marks)
   length_marked ops.Nothing m = length_push m.marks _
-  length_marked (ops.Changes change) m = length_push m.marks _
-  length_marked (ops.From change) m = length_push m.marks _
-  length_marked ops.Then m = length_push m.marks _
-  length_marked ops.BackIn m = length_push m.marks _
-  length_marked (ops.Acts node action) m = length_push m.marks _
-  length_marked (ops.InScope node for_temporaries) m = length_push m.marks _
-  length_marked ops.Leaves m = length_push m.marks _
-  length_marked (ops.Branches node on) m = length_push m.marks _
-  length_marked (ops.Loops id) m = length_push m.marks _
-  length_marked (ops.Exits node exit) m = length_push m.marks _
-  length_marked (ops.Panics node why) m = length_push m.marks _
-  length_marked (ops.Replaces site key) m = length_push m.marks _
-  length_marked (ops.Drops key) m = length_push m.marks _
-  length_marked ops.BeforeArms m = length_push m.marks _
   length_marked (ops.IsArm tests None) m = length_push m.marks _
   length_marked (ops.IsArm tests (Some key)) m = length_push m.marks _
-  length_marked ops.EmptyArm m = length_push m.marks _
-  length_marked (ops.Matches node) m = length_push m.marks _
+  length_marked other m = length_push m.marks _
 
   abbrev CoversAll : (words done : List CodeWord) → Marking → Type 0
   CoversAll words done m = (parts : List Part) → parted (reverse done) ≡ Some parts → Cover f words m.marks parts (length m.marks) m.jumps

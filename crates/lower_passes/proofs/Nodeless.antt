@@ -53,22 +53,4 @@ module _ (f : LoweringFrame) (node : ℕ) where
   -- nor does whether a run comes behind it
   pub last_same : (action : Action) → build.is_last f (effect_of 0 action) ≡ build.is_last f (effect_of node action)
   last_same (Action.Stmt (Stmt.Put to from)) = refl
-  last_same (Action.Stmt (Stmt.Compare to operator left right)) = refl
-  last_same (Action.Stmt (Stmt.Not to operand)) = refl
-  last_same (Action.Stmt (Stmt.Tuple to parts)) = refl
-  last_same (Action.Stmt (Stmt.Array to parts)) = refl
-  last_same (Action.Stmt (Stmt.Make to adt variant parts)) = refl
-  last_same (Action.Stmt (Stmt.Close to closure parts)) = refl
-  last_same (Action.Stmt (Stmt.NewBox to content)) = refl
-  last_same (Action.Stmt (Stmt.Unsize to trait_no from)) = refl
-  last_same (Action.Stmt (Stmt.Borrow to unique base)) = refl
-  last_same (Action.Stmt (Stmt.Touch place)) = refl
-  last_same (Action.Stmt (Stmt.Print operand)) = refl
-  last_same (Action.Stmt (Stmt.Forget operand)) = refl
-  last_same (Action.Stmt (Stmt.Free place)) = refl
-  last_same (Action.Math to op left right) = refl
-  last_same (Action.Negate to of) = refl
-  last_same (Action.Bounds index length) = refl
-  last_same (Action.Call to body args) = refl
-  last_same (Action.Virtual to trait_no method args) = refl
-  last_same (Action.Ask to) = refl
+  last_same other = refl

@@ -64,37 +64,17 @@ module _ (f : LoweringFrame) (words : List CodeWord) (marks : List CodeMark) whe
 
   word_is : (c : Code) (s e : ℕ) → Stands f words marks c s e → slice_get words e ≡ Some (word_of c)
   word_is code.Nothing s e is = is.0.0
-  word_is (code.Changes change) s e is = is.0.0
-  word_is (code.From change inner) s e is = is.0.0
-  word_is (code.Then one another) s e is = is.0.0
-  word_is (code.BackIn inner) s e is = is.0.0
-  word_is (code.Acts node action) s e is = is.0.0
-  word_is (code.InScope node for_temporaries inner) s e is = is.0.0
-  word_is code.Leaves s e is = is.0.0
-  word_is (code.Branches node on held otherwise) s e is = is.0.0
-  word_is (code.Loops id turn) s e is = is.0.0
-  word_is (code.Exits node exit) s e is = is.0.0
-  word_is (code.Panics node why) s e is = is.0.0
-  word_is (code.Replaces site key) s e is = is.0.0
-  word_is (code.Drops key) s e is = is.0.0
-  word_is (code.Matches node arms) s e is = is.0.0
+  word_is other s e is = is.0.0
 
   reads_own : (c : Code) (s e : ℕ) → Stands f words marks c s e → Reads (word_of c) c s e
-  reads_own code.Nothing s e is = refl
-  reads_own (code.Changes change) s e is = refl
   reads_own (code.From change inner) s e is = (inner, (refl, is.1))
   reads_own (code.Then one another) s e is = (one, (another, (refl, is.1)))
   reads_own (code.BackIn inner) s e is = (inner, (refl, is.1))
-  reads_own (code.Acts node action) s e is = refl
   reads_own (code.InScope node for_temporaries inner) s e is = (inner, (refl, is.1))
-  reads_own code.Leaves s e is = refl
   reads_own (code.Branches node on held otherwise) s e is = (held, (otherwise, (refl, is.1)))
   reads_own (code.Loops id turn) s e is = (turn, (refl, is.1))
-  reads_own (code.Exits node exit) s e is = refl
-  reads_own (code.Panics node why) s e is = refl
-  reads_own (code.Replaces site key) s e is = refl
-  reads_own (code.Drops key) s e is = refl
   reads_own (code.Matches node arms) s e is = (arms, (refl, is.1))
+  reads_own other s e is = refl
 
   pub reads : (c : Code) (s e : ℕ) (word : CodeWord) → Stands f words marks c s e → slice_get words e ≡ Some word → Reads word c s e
   reads c s e word is at =
@@ -119,26 +99,19 @@ module _ (f : LoweringFrame) (words : List CodeWord) (marks : List CodeMark) whe
 
   mutual
     pub within : (c : Code) (s e : ℕ) → Stands f words marks c s e → s ≤ e
-    within code.Nothing s e is = at_end s e is.1
-    within (code.Changes change) s e is = at_end s e is.1
     within (code.From change inner) s e is = one_within s e (Stands f words marks inner) (λ d one. within inner s d one) is.1
     within (code.Then one another) s e is =
         two_within s e (Stands f words marks one) (Stands f words marks another) (λ m stands. within one s m stands) (λ m d stands. within another m d stands) is.1
     within (code.BackIn inner) s e is = one_within s e (Stands f words marks inner) (λ d one. within inner s d one) is.1
-    within (code.Acts node action) s e is = at_end s e is.1
     within (code.InScope node for_temporaries inner) s e is =
         one_within s e (Stands f words marks inner) (λ d one. within inner s d one) is.1
-    within code.Leaves s e is = at_end s e is.1
     within (code.Branches node on held otherwise) s e is =
         two_within s e (Stands f words marks held) (Stands f words marks otherwise) (λ m stands. within held s m stands) (λ m d stands. within otherwise m d stands) is.1
     within (code.Loops id turn) s e is = one_within s e (Stands f words marks turn) (λ d one. within turn s d one) is.1
-    within (code.Exits node exit) s e is = at_end s e is.1
-    within (code.Panics node why) s e is = at_end s e is.1
-    within (code.Replaces site key) s e is = at_end s e is.1
-    within (code.Drops key) s e is = at_end s e is.1
     within (code.Matches node arms) s e is =
         let below : suc s ≤ e = arms_within arms (suc s) e is.1.1 in
         omega arith
+    within other s e is = at_end s e is.1
 
     pub arms_within : (arms : Arms) (s e : ℕ) → StandArms f words marks arms s e → s ≤ e
     arms_within no_arm s e is = at_end s e is

@@ -73,17 +73,4 @@ module _ (f : LoweringFrame) (words : List CodeWord) (marks : List CodeMark) whe
 
   pub code_says : (c : Code) (s e : ℕ) → Stands f words marks c s e → Says s e (lowers f c).has_end
   code_says code.Nothing s e is = says s e _ _ is.0
-  code_says (code.Changes change) s e is = says s e _ _ is.0
-  code_says (code.From change inner) s e is = says s e _ _ is.0
-  code_says (code.Then one another) s e is = says s e _ _ is.0
-  code_says (code.BackIn inner) s e is = says s e _ _ is.0
-  code_says (code.Acts node action) s e is = says s e _ _ is.0
-  code_says (code.InScope node for_temporaries inner) s e is = says s e _ _ is.0
-  code_says code.Leaves s e is = says s e _ _ is.0
-  code_says (code.Branches node on held otherwise) s e is = says s e _ _ is.0
-  code_says (code.Loops id turn) s e is = says s e _ _ is.0
-  code_says (code.Exits node exit) s e is = says s e _ _ is.0
-  code_says (code.Panics node why) s e is = says s e _ _ is.0
-  code_says (code.Replaces site key) s e is = says s e _ _ is.0
-  code_says (code.Drops key) s e is = says s e _ _ is.0
-  code_says (code.Matches node arms) s e is = says s e _ _ is.0
+  code_says other s e is = says s e _ _ is.0

@@ -34,28 +34,11 @@ module _ (f : LoweringFrame) where
 
   of_stmt : (stmt : Stmt) → build.is_last f (action_of 0 stmt) ≡ option_map_or is_never (stored_in stmt) false
   of_stmt (Stmt.Put to from) = refl
-  of_stmt (Stmt.Compare to operator left right) = refl
-  of_stmt (Stmt.Not to operand) = refl
-  of_stmt (Stmt.Tuple to parts) = refl
-  of_stmt (Stmt.Array to parts) = refl
-  of_stmt (Stmt.Make to adt variant parts) = refl
-  of_stmt (Stmt.Close to closure parts) = refl
-  of_stmt (Stmt.NewBox to content) = refl
-  of_stmt (Stmt.Unsize to trait_no from) = refl
-  of_stmt (Stmt.Borrow to unique base) = refl
-  of_stmt (Stmt.Touch place) = refl
-  of_stmt (Stmt.Print operand) = refl
-  of_stmt (Stmt.Forget operand) = refl
-  of_stmt (Stmt.Free place) = refl
+  of_stmt other = refl
 
   of_action : (action : Action) → build.is_last f (effect_of 0 action) ≡ option_map_or is_never (stored action) false
   of_action (Action.Stmt stmt) = of_stmt stmt
-  of_action (Action.Math to op left right) = refl
-  of_action (Action.Negate to of) = refl
-  of_action (Action.Bounds index length) = refl
-  of_action (Action.Call to body args) = refl
-  of_action (Action.Virtual to trait_no method args) = refl
-  of_action (Action.Ask to) = refl
+  of_action other = refl
 
   -- the place by locals tells it
   pub last_is : (action : Action) (to : graph_place.Place) (found : graph_place.Place) → stored action ≡ Some to → found ≡ build.place_of f (site_of 0 to) → never_at f.items (slice_get f.tys) (site_of 0 found) ≡ build.is_last f (effect_of 0 action)

@@ -1,7 +1,7 @@
 //! What a panic drops.
 #![tactic(auto, using(crate::proofs::Lists::entries_last))]
 
-ghost use Rattle.std.specs.Prelude.{◌≡◌, ◌∷◌, ◌++◌, [], IfOk, IsTrue, OnOk, map};
+ghost use Rattle.std.specs.Prelude.{◌≡◌, ◌∷◌, ◌++◌, ◌↔◌, [], IfOk, IsTrue, OnOk, map};
 ghost use Rattle.lower_code.specs.View.{entry_of};
 ghost use Rattle.src_meaning.specs.Scopes.{needing_drop, all_entries};
 ghost use Rattle.lower_passes.specs.Scoped.{entries_of, held, scopes_of};
@@ -46,7 +46,7 @@ fn add_scope(items: &Items, scope: &Scope, drops: &mut Vec<Entry>) -> Result<(),
 
 /// Whether no type of these entries needs a drop.
 pub fn drops_none(items: &Items, entries: &Entries) -> bool
-    ensures { IsTrue result → needing_drop items.now (held entries.entry.now) ≡ [] }
+    ensures { IsTrue result ↔ (needing_drop items.now (held entries.entry.now) ≡ []) }
 {
     match entries {
         Entries::NoEntry => true,

@@ -10,8 +10,7 @@ ghost use Rattle.lower_passes.specs.Scoped.{held};
 use crate::scope::Entries;
 use bumpalo::Bump;
 use lower_code::Entry;
-use mir_base::{Key, List, NoMemory};
-use std::alloc::Global;
+use mir_base::{Key, NoMemory};
 
 /// An entry that is younger than others.
 pub fn push_entry<'a>(
@@ -102,16 +101,4 @@ pub fn without_keys<'a>(
         left = without_key(bump, *key, left)?;
     }
     Ok(left)
-}
-
-/// Entries once more.
-///
-/// # Errors
-///
-/// [`NoMemory`] where memory is wanted.
-pub fn copied_entries(alloc: Global, entries: &[Entry]) -> Result<List<Entry>, NoMemory>
-    ensures { IfOk result (λ copy. copy ≡ entries.now) }
-{
-    let copy = Vec::from_slice(alloc, entries)?;
-    Ok(List::from_vec(copy))
 }

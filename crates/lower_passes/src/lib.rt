@@ -20,7 +20,6 @@ mod spans;
 pub use divergence::is_last;
 pub use drops::{drops_none, panic_drops};
 pub use effects::{statement, terminator};
-pub use entries::copied_entries;
 pub use frames::{LoweringFrame, local};
 pub use mark_pass::marks_of;
 pub use marks::CodeMark;

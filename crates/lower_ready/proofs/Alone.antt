@@ -100,13 +100,7 @@ module _ (items : ItemTable) where
   made_well (Ty.Boxed content) h = none_held content [] (not_true (types.is_reference items content) (second (is_some (type_at items content)) _ h)) refl
   made_well (Ty.Shared to) h = none_held to [] (not_true (types.is_reference items to) (second (is_some (type_at items to)) _ h)) refl
   made_well (Ty.Unique to) h = none_held to [] (not_true (types.is_reference items to) (second (is_some (type_at items to)) _ h)) refl
-  made_well (Ty.Int kind) h = refl
-  made_well Ty.Bool h = refl
-  made_well Ty.Unit h = refl
-  made_well Ty.Never h = refl
-  made_well (Ty.Adt n) h = refl
-  made_well (Ty.Dyn n) h = refl
-  made_well (Ty.Closure n) h = refl
+  made_well other h = refl
 
   one_alone : (id : TyId) → of_items.stands_alone items id ≡ true → holds_no_reference items (id ∷ []) ≡ true
   one_alone id h = none_held id [] (alone_is_none id h) refl

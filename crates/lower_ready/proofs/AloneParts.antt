@@ -123,14 +123,7 @@ module _ (p : ProgramTree) (w : WellTyped p) where
   of_part id (Ty.Tuple parts) v k j q e = one_variant parts v k j (of_type id (Ty.Tuple parts) q) e
   of_part id (Ty.Array element count) v k j q e = one_variant (replicate count element) v k j (repeated count element (held_not (element ∷ []) 0 element (of_type id (Ty.Array element count) q) refl)) e
   of_part id (Ty.Closure n) v k j q e = of_closure n v k j e
-  of_part id (Ty.Int kind) v k j q e = absurd (none-some j e)
-  of_part id Ty.Bool v k j q e = absurd (none-some j e)
-  of_part id Ty.Unit v k j q e = absurd (none-some j e)
-  of_part id Ty.Never v k j q e = absurd (none-some j e)
-  of_part id (Ty.Boxed content) v k j q e = absurd (none-some j e)
-  of_part id (Ty.Dyn n) v k j q e = absurd (none-some j e)
-  of_part id (Ty.Shared to) v k j q e = absurd (none-some j e)
-  of_part id (Ty.Unique to) v k j q e = absurd (none-some j e)
+  of_part id other v k j q e = absurd (none-some j e)
 
   pub fields_not : (id : TyId) (v n : ℕ) (j : TyId) → field_ty p.items id v n ≡ Some j → NotRef j
   fields_not id v n j e = by (type_at p.items id) refl e

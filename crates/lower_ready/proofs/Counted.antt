@@ -1,6 +1,6 @@
 -- How many statements of a kind stand in what is built of code: each effect of the code makes its own, and code behind
 -- code without an end makes none. So nothing is built twice.
-use Rattle.std.proofs.Common.{◌≡◌, ℕ, zero, suc, ◌+◌, ◌<◌, ◌||◌, not, nat_lt, Bool, true, false, List, [], ◌∷◌, ◌++◌, length, map, Option, Some, None, slice_get, slice_set, refl, sym, ap, ◌∙◌, arith, ◌&&◌, length-append, add-one}
+use Rattle.std.proofs.Common.{◌≡◌, ℕ, zero, suc, ◌+◌, ◌<◌, ◌||◌, not, nat_lt, Bool, true, false, List, [], ◌∷◌, ◌++◌, length, map, Option, Some, None, slice_get, slice_set, refl, sym, ap, ◌∙◌, arith, ◌&&◌, ◌==◌, if◌then◌else◌, length-append, add-one}
 use Rattle.std.proofs.lemmas.Option.{none-some, same_Some}
 use Rattle.cfg_graph.specs.declared.graph.Kind.{Kind}
 use Rattle.cfg_graph.specs.declared.statement.Stmt.{Stmt}
@@ -13,7 +13,7 @@ use Rattle.src_meaning.specs.Forms.{moved, Destination, LoopsAndGuards}
 use Rattle.src_meaning.specs.Scopes.{Entry, Scopes, needing_drop, entry_site, Exit}
 use Rattle.src_meaning.specs.Shape.{PatternTest, IsVariant, IsNumber, IsTruth, AnyOf, PatternTests, no_test, a_test, Alternatives, no_alternative, an_alternative}
 use Rattle.lower_rules.specs.Spots.{JumpWay, Ways, ways_in_loop}
-use Rattle.lower_rules.specs.Build.{LoweringFrame, NodeLine, BlockRest, MadeBlock, Building, ending, with_line, made, closed, reserved, filled, chain_among, kept_chain, chain_or, way_of, is_left_by, Lowers, jumps_if, Done, ByStmt, ByTerm, change, nothing, from_changed, back_in, then_build, then_lower, joined, branches, with_exit, looped, place_of, operand_of, done_by, chain, unwind_to, unwinding, done, is_last, act_by, act, panic_drops, drop_one, drop_all, leave_from, leave, leaves_one, leaves_to, exits, panics, compared, tests, test as one_test, any_test, taken, put_into, replaces_from}
+use Rattle.lower_rules.specs.Build.{LoweringFrame, NodeLine, BlockRest, MadeBlock, SharedEnd, Resumes, GoesTo, DropsThen, Building, ending, with_line, made, closed, reserved, filled, end_among, end_kind, end_rest, listed_at, shared_or, share, enters, jump_of, way_of, is_left_by, Lowers, jumps_if, Done, ByStmt, ByTerm, change, nothing, from_changed, back_in, then_build, then_lower, joined, branches, with_exit, looped, place_of, operand_of, done_by, chain, unwind_to, unwinding, done, is_last, act_by, act, panic_drops, drop_one, drop_all, drops_before, drops_to, leave_by, leave_from, leave, leaves_one, leaves_before, leaves_to, exits, panics, compared, tests, test as one_test, any_test, taken, put_into, replaces_from}
 use Rattle.lower_rules.specs.Lower as lower
 use Rattle.lower_rules.specs.Lower.{LowersArm, NodeLower, guard_from}
 use Rattle.store_model.specs.Places.Place.{Place}
@@ -103,39 +103,39 @@ module _ (f : LoweringFrame) (passes : Stmt → Bool) (none_compared : (site : E
       let l = lines_same k.lines in
       let r : total (filled kind n k s) ≡ rest k + total s = omega (p, l, arith) in r
 
-  -- ---- chains of drops
-  chain_total : (es : List Entry) (s : Building) → total (chain f es s).1 ≡ total s
-  chain_total [] s = by (chain_among [] s.chains)
-    where
-      by : (o : Option ℕ) → total (chain_or o s (kept_chain [] (ending Term.Resume 0))).1 ≡ total s
-      by (Some n) = refl
-      by None = no_more 0 _ _ refl (closed_total Kind.Cleanup (ending Term.Resume 0) s)
-  chain_total (x ∷ es) s = by (chain_total es s) (chain_among (x ∷ es) s.chains)
-    where
-      drop_rest : ℕ × Building → BlockRest
-      drop_rest r = ending (Term.DropAt (place_of f (entry_site x)) r.0 Unwind.Abort) x.key
+  -- ---- blocks that are shared, and chains of drops
+  none_in : (e : SharedEnd) → rest (end_rest f e) ≡ 0
+  none_in Resumes = refl
+  none_in (GoesTo block) = refl
+  none_in (DropsThen key onward unwind) = refl
 
-      by : total (chain f es s).1 ≡ total s → (o : Option ℕ) → total (chain_or o s (λ s. let r = chain f es s in kept_chain (x ∷ es) (drop_rest r) r.1)).1 ≡ total s
-      by ih (Some n) = refl
-      by ih None = no_more 0 _ _ refl (closed_total Kind.Cleanup (drop_rest (chain f es s)) (chain f es s).1) ∙ ih
+  share_total : (e : SharedEnd) (s : Building) → total (share f e s).1 ≡ total s
+  share_total e s = by (end_among e (s.shared (listed_at e)))
+    where
+      by : (o : Option ℕ) → total (shared_or f o e s).1 ≡ total s
+      by (Some n) = refl
+      by None =
+          let c = closed_total (end_kind f e) (end_rest f e) s in
+          let none = none_in e in
+          let i : total (closed (end_kind f e) (end_rest f e) s) ≡ total s = omega (c, none, arith) in i
+
+  share_grows : (e : SharedEnd) (s : Building) → Grows s (share f e s).1
+  share_grows e s = by (end_among e (s.shared (listed_at e)))
+    where
+      by : (o : Option ℕ) → Grows s (shared_or f o e s).1
+      by (Some n) = grows_not s
+      by None = let g = closed_grows (end_kind f e) (end_rest f e) s in record { longer = g.longer; keeps = g.keeps }
+
+  abbrev drop_end : Entry → ℕ × Building → SharedEnd
+  drop_end x r = DropsThen x.key r.0 Unwind.Abort
+
+  chain_total : (es : List Entry) (s : Building) → total (chain f es s).1 ≡ total s
+  chain_total [] s = share_total Resumes s
+  chain_total (x ∷ es) s = let r = chain f es s in share_total (drop_end x r) r.1 ∙ chain_total es s
 
   chain_grows : (es : List Entry) (s : Building) → Grows s (chain f es s).1
-  chain_grows [] s = by (chain_among [] s.chains)
-    where
-      by : (o : Option ℕ) → Grows s (chain_or o s (kept_chain [] (ending Term.Resume 0))).1
-      by (Some n) = grows_not s
-      by None = record { longer = (closed_grows Kind.Cleanup (ending Term.Resume 0) s).longer; keeps = (closed_grows Kind.Cleanup (ending Term.Resume 0) s).keeps }
-  chain_grows (x ∷ es) s = by (chain_grows es s) (chain_among (x ∷ es) s.chains)
-    where
-      drop_rest : ℕ × Building → BlockRest
-      drop_rest r = ending (Term.DropAt (place_of f (entry_site x)) r.0 Unwind.Abort) x.key
-
-      by : Grows s (chain f es s).1 → (o : Option ℕ) → Grows s (chain_or o s (λ s. let r = chain f es s in kept_chain (x ∷ es) (drop_rest r) r.1)).1
-      by ih (Some n) = grows_not s
-      by ih None =
-          let r = chain f es s in
-          let g = grows_on s r.1 (closed Kind.Cleanup (drop_rest r) r.1) ih (closed_grows Kind.Cleanup (drop_rest r) r.1) in
-          record { longer = g.longer; keeps = g.keeps }
+  chain_grows [] s = share_grows Resumes s
+  chain_grows (x ∷ es) s = let r = chain f es s in grows_on s r.1 _ (chain_grows es s) (share_grows (drop_end x r) r.1)
 
   unwind_total : (es : List Entry) (s : Building) → total (unwind_to f es s).1 ≡ total s
   unwind_total [] s = refl
@@ -167,21 +167,86 @@ module _ (f : LoweringFrame) (passes : Stmt → Bool) (none_compared : (site : E
       let r = drop_all f es S k s in
       grows_on s r.1 _ (drops_grow es S k s) (dropped_grows (entry_site e) (es ++ panic_drops f S) r.0 r.1)
 
+  -- drops before a jump
+  before_total : (es : List Entry) (S : Scopes) (to : ℕ × Building) → total (drops_before f es S to).1 ≡ total to.1
+  before_total [] S to = refl
+  before_total (e ∷ es) S to =
+      let r = drops_before f es S to in
+      let down = unwind_to f (es ++ panic_drops f S) r.1 in
+      share_total (DropsThen e.key r.0 down.0) down.1 ∙ (unwind_total (es ++ panic_drops f S) r.1 ∙ before_total es S to)
+
+  before_grows : (es : List Entry) (S : Scopes) (to : ℕ × Building) → Grows to.1 (drops_before f es S to).1
+  before_grows [] S to = grows_not to.1
+  before_grows (e ∷ es) S to =
+      let r = drops_before f es S to in
+      let down = unwind_to f (es ++ panic_drops f S) r.1 in
+      grows_on to.1 r.1 _ (before_grows es S to) (grows_on r.1 down.1 _ (unwind_grows (es ++ panic_drops f S) r.1) (share_grows (DropsThen e.key r.0 down.0) down.1))
+
+  to_both : (es : List Entry) (S : Scopes) (to : ℕ × Building) (none : BlockRest × Building) (n : ℕ) → total to.1 ≡ n → both none ≡ n → both (drops_to f es S to none) ≡ n
+  to_both [] S to none n at without = without
+  to_both (e ∷ es) S to none n at without =
+      let r = drops_before f es S to in
+      unwinding_both (Term.DropAt (place_of f (entry_site e)) r.0) e.key (es ++ panic_drops f S) r.1 ∙ (before_total es S to ∙ at)
+
+  to_grows : (es : List Entry) (S : Scopes) (to : ℕ × Building) (none : BlockRest × Building) (s : Building) → Grows s to.1 → Grows s none.1 → Grows s (drops_to f es S to none).1
+  to_grows [] S to none s at without = without
+  to_grows (e ∷ es) S to none s at without =
+      let r = drops_before f es S to in
+      grows_on s to.1 _ at (grows_on to.1 r.1 _ (before_grows es S to) (unwind_grows (es ++ panic_drops f S) r.1))
+
+  -- a rest that is a jump has no lines
+  no_lines : (k : BlockRest) (block : ℕ) → jump_of k ≡ Some block → rest k ≡ 0
+  no_lines k block = by (k.node == 0)
+    where
+      by_lines : (lines : List NodeLine) (term : Term) → enters lines term ≡ Some block → in_lines lines ≡ 0
+      by_lines [] term e = refl
+      by_lines (l ∷ lines) term e = absurd (none-some block e)
+
+      by : (x : Bool) → (if x then enters k.lines k.term else None) ≡ Some block → rest k ≡ 0
+      by true e = by_lines k.lines k.term e
+      by false e = absurd (none-some block e)
+
   leave_both : (S : Scopes) (k : BlockRest) (s : Building) → both (leave_from f S k s) ≡ rest k + total s
   leave_both [] k s = refl
-  leave_both (x ∷ S) k s = drops_both (needing_drop f.items x.entries) S k s
+  leave_both (x ∷ S) k s = by (jump_of k) refl
+    where
+      by : (o : Option ℕ) → jump_of k ≡ o → both (leave_by f o (needing_drop f.items x.entries) S k s) ≡ rest k + total s
+      by (Some block) e =
+          to_both (needing_drop f.items x.entries) S (share f (GoesTo block) s) (k, s) (rest k + total s)
+          (share_total (GoesTo block) s ∙ (let none = no_lines k block e in let i : total s ≡ rest k + total s = omega (none, arith) in i)) refl
+      by None e = drops_both (needing_drop f.items x.entries) S k s
 
   leave_grows : (S : Scopes) (k : BlockRest) (s : Building) → Grows s (leave_from f S k s).1
   leave_grows [] k s = grows_not s
-  leave_grows (x ∷ S) k s = drops_grow (needing_drop f.items x.entries) S k s
+  leave_grows (x ∷ S) k s = by (jump_of k)
+    where
+      by : (o : Option ℕ) → Grows s (leave_by f o (needing_drop f.items x.entries) S k s).1
+      by (Some block) = to_grows (needing_drop f.items x.entries) S (share f (GoesTo block) s) (k, s) s (share_grows (GoesTo block) s) (grows_not s)
+      by None = drops_grow (needing_drop f.items x.entries) S k s
+
+  before_leaves_total : (way : JumpWay) (S : Scopes) (s : Building) → total (leaves_before f way S s).1 ≡ total s
+  before_leaves_total way [] s = share_total (GoesTo way.block) s
+  before_leaves_total way (x ∷ S) s = by (before_leaves_total way S s) (not (nat_lt (length S) way.base))
+    where
+      by : total (leaves_before f way S s).1 ≡ total s → (b : Bool) → total (leaves_one f b (drops_before f (needing_drop f.items x.entries) S (leaves_before f way S s)) (share f (GoesTo way.block) s)).1 ≡ total s
+      by ih true = before_total (needing_drop f.items x.entries) S (leaves_before f way S s) ∙ ih
+      by ih false = share_total (GoesTo way.block) s
+
+  before_leaves_grow : (way : JumpWay) (S : Scopes) (s : Building) → Grows s (leaves_before f way S s).1
+  before_leaves_grow way [] s = share_grows (GoesTo way.block) s
+  before_leaves_grow way (x ∷ S) s = by (before_leaves_grow way S s) (not (nat_lt (length S) way.base))
+    where
+      by : Grows s (leaves_before f way S s).1 → (b : Bool) → Grows s (leaves_one f b (drops_before f (needing_drop f.items x.entries) S (leaves_before f way S s)) (share f (GoesTo way.block) s)).1
+      by ih true = grows_on s (leaves_before f way S s).1 _ ih (before_grows (needing_drop f.items x.entries) S (leaves_before f way S s))
+      by ih false = share_grows (GoesTo way.block) s
 
   jumped_both : (node : ℕ) (way : JumpWay) (S : Scopes) (s : Building) → both (leaves_to f node way S s) ≡ total s
   jumped_both node way [] s = nothing_and 0 _ _ refl refl
   jumped_both node way (x ∷ S) s = by (jumped_both node way S s) (not (nat_lt (length S) way.base))
     where
       by : both (leaves_to f node way S s) ≡ total s → (b : Bool) →
-          both (leaves_one f b (let r = leaves_to f node way S s in drop_all f (needing_drop f.items x.entries) S r.0 r.1) (ending (Term.Goto way.block) node, s)) ≡ total s
-      by ih true = let r = leaves_to f node way S s in drops_both (needing_drop f.items x.entries) S r.0 r.1 ∙ ih
+          both (leaves_one f b (drops_to f (needing_drop f.items x.entries) S (leaves_before f way S s) (leaves_to f node way S s)) (ending (Term.Goto way.block) node, s)) ≡ total s
+      by ih true = to_both (needing_drop f.items x.entries) S (leaves_before f way S s) (leaves_to f node way S s) (total s) (before_leaves_total way S s) ih
       by ih false = nothing_and 0 _ _ refl refl
 
   jumped_grows : (node : ℕ) (way : JumpWay) (S : Scopes) (s : Building) → Grows s (leaves_to f node way S s).1
@@ -189,8 +254,8 @@ module _ (f : LoweringFrame) (passes : Stmt → Bool) (none_compared : (site : E
   jumped_grows node way (x ∷ S) s = by (jumped_grows node way S s) (not (nat_lt (length S) way.base))
     where
       by : Grows s (leaves_to f node way S s).1 → (b : Bool) →
-          Grows s (leaves_one f b (let r = leaves_to f node way S s in drop_all f (needing_drop f.items x.entries) S r.0 r.1) (ending (Term.Goto way.block) node, s)).1
-      by ih true = let r = leaves_to f node way S s in grows_on s r.1 _ ih (drops_grow (needing_drop f.items x.entries) S r.0 r.1)
+          Grows s (leaves_one f b (drops_to f (needing_drop f.items x.entries) S (leaves_before f way S s) (leaves_to f node way S s)) (ending (Term.Goto way.block) node, s)).1
+      by ih true = to_grows (needing_drop f.items x.entries) S (leaves_before f way S s) (leaves_to f node way S s) s (before_leaves_grow way S s) ih
       by ih false = grows_not s
 
   -- ---- tests
@@ -453,7 +518,7 @@ module _ (f : LoweringFrame) (passes : Stmt → Bool) (none_compared : (site : E
     begin_at k s = length (begun_with k s).blocks
 
     abbrev again : BlockRest → Building → BlockRest
-    again k s = ending (Term.Goto (begin_at k s)) id
+    again k s = ending (Term.Goto (begin_at k s)) 0
 
     abbrev code_in : Ways → Scopes → BlockRest → Building → BlockRest × Building
     code_in c S k s =

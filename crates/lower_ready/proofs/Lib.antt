@@ -28,6 +28,8 @@ mod Counted
 mod Once
 mod OnceActs
 mod OnceCounts
+mod OnceOperators
+mod OnceBranching
 mod OnceForms
 mod OnceNodes
 mod OnceParts

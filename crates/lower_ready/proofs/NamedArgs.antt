@@ -5,12 +5,12 @@ use Rattle.std.proofs.lemmas.Bool.{false≢true}
 use Rattle.std.proofs.lemmas.Option.{none-some, same_Some}
 use Rattle.mir_ty.specs.declared.ty.TyId.{TyId}
 use Rattle.mir_ty.specs.ItemTable.{ItemTable}
-use Rattle.store_model.specs.Places.Place.{Step, Place, whole_local}
+use Rattle.store_model.specs.Places.Place.{Step, Place}
 use Rattle.cfg_graph.specs.declared.graph.Body.{Body}
 use Rattle.cfg_graph.specs.NamedPlaces.{as_laid_out, one_goes_on}
 use Rattle.typed_tree.specs.Nodes.{number_of, nodes_of, nodes_among}
 use Rattle.typed_tree.specs.Tree as tree
-use Rattle.typed_tree.specs.Tree.{Node, node, Form, Nodes, no_node, a_node, BodyTree}
+use Rattle.typed_tree.specs.Tree.{Node, node, Nodes, no_node, a_node, BodyTree}
 use Rattle.src_meaning.specs.Locals.Effects.{step_at, place_at}
 use Rattle.src_meaning.specs.Locals.OfBody.{local_of, local_keys}
 use Rattle.src_meaning.specs.Shape as shapes
@@ -30,7 +30,7 @@ use Rattle.soundness_frame.proofs.PassLaterArgs.{later_within, later_rooted}
 use Rattle.soundness_frame.proofs.PassPlacesApart.{locals_differ}
 use Rattle.soundness_frame.proofs.PassTold as told_here
 use Rattle.soundness_frame.proofs.PassTold.{ids, KnownOf, RootIf, Here, Told}
-use Rattle.soundness_frame.proofs.PassToldForms.{node_above}
+use Rattle.soundness_frame.proofs.PassToldBelow.{node_above}
 use Rattle.soundness_frame.proofs.PassToldPlaces.{AllOwned}
 use Rattle.soundness_frame.proofs.PassWithin as within
 use Rattle.lower_ready.proofs.NamedApart.{or_true, apart_seen}

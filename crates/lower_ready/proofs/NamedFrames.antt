@@ -1,7 +1,7 @@
 -- Three frames of the run of a source under the watch over what the reference in a local names: whatever is done but
 -- a call keeps that nothing bad was seen; what takes nothing of what is named keeps it kept; and what is not looked
 -- at any more is not.
-use Rattle.std.proofs.Common.{◌≡◌, ℕ, Bool, true, false, List, [], ◌∷◌, ◌++◌, map, flat_map, Option, refl}
+use Rattle.std.proofs.Common.{◌≡◌, ℕ, true, false, List, [], ◌∷◌, ◌++◌, map, flat_map, Option, refl}
 use Rattle.std.proofs.lemmas.Bool.{false≢true}
 use Rattle.mir_ty.specs.declared.ty.TyId.{TyId}
 use Rattle.mir_ty.specs.ItemTable.{ItemTable}
@@ -9,7 +9,6 @@ use Rattle.store_model.specs.Effects as effects
 use Rattle.store_model.specs.Effects.{EffectSite, Operand, Action, Test, Effects}
 use Rattle.store_model.specs.Places.Place.{Place}
 use Rattle.cfg_graph.specs.declared.graph.Body.{Body}
-use Rattle.cfg_graph.specs.Uses.{Moves}
 use Rattle.typed_tree.specs.Tree.{Form, BodyTree}
 use Rattle.src_meaning.specs.Locals.Effects.{at_locals, place_at, operand_at, action_at, test_at, site_at}
 use Rattle.src_meaning.specs.Locals.OfBody.{local_of, local_ty}
@@ -18,13 +17,12 @@ use Rattle.soundness_values.proofs.Leaving.{ShownOut}
 use Rattle.soundness_frame.proofs.PassWithin.{Outer}
 use Rattle.soundness_frame.proofs.PassFrameActs.{Takes, AllTake, AllowedSo, AllowedTest, is_plain, KeepingSo}
 use Rattle.soundness_frame.proofs.PassFrameBodies.{any_place}
-use Rattle.soundness_frame.proofs.PassFrameForms.{Telling, TellingCalls}
+use Rattle.soundness_frame.proofs.PassFrameHeads.{Telling, TellingCalls}
 use Rattle.lower_ready.proofs.NamedKept as kept
 use Rattle.lower_ready.proofs.NamedKept.{look_clean, unused_clean, KeptSo, AllApart, apart_both, stored_apart, look_kept, passed_kept, LostSo, look_lost, passed_lost}
 use Rattle.lower_ready.proofs.NamedLines.{apart, unused}
-use Rattle.lower_ready.proofs.NamedWatch as watch
 use Rattle.lower_ready.proofs.NamedWatch.{NamedState}
-use Rattle.lower_ready.proofs.Noting.{Note, operand_notes, before, stored, tested, is_call}
+use Rattle.lower_ready.proofs.Noting.{operand_notes, before, tested, is_call}
 
 module _ (items : ItemTable) (tree : BodyTree) (body : Body) (local : ℕ) (named : Place) where
   abbrev pub lo : ℕ → ℕ

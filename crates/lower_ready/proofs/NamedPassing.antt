@@ -9,7 +9,7 @@ use Rattle.store_model.specs.Effects as effects
 use Rattle.store_model.specs.Effects.{EffectSite, Operand, Action, Halt, Unreachable, Out, Go, Unwind, Halts, Effects, stores_where, halting_if}
 use Rattle.store_model.specs.Places.Place.{Place, whole_local}
 use Rattle.cfg_graph.specs.declared.graph.Body.{Body}
-use Rattle.cfg_graph.specs.Uses.{PlaceUse, Moves, Borrows, Stores}
+use Rattle.cfg_graph.specs.Uses.{Borrows, Stores}
 use Rattle.typed_tree.specs.declared.node.Use.{Use}
 use Rattle.typed_tree.specs.Nodes.{number_of}
 use Rattle.typed_tree.specs.Tree as tree
@@ -18,24 +18,26 @@ use Rattle.src_meaning.specs.Evaluation as evaluation
 use Rattle.src_meaning.specs.Evaluation.{to_own_key}
 use Rattle.src_meaning.specs.Forms as forms
 use Rattle.src_meaning.specs.Forms.{Destination, Into, Coerced, LoopsAndGuards, Meaning, is_never, moved, all_moved, keys_of, site_in, site_of}
-use Rattle.src_meaning.specs.Locals.Effects.{place_at, operand_at, action_at, site_at}
+use Rattle.src_meaning.specs.Locals.Effects.{place_at, operand_at, action_at}
 use Rattle.src_meaning.specs.Scopes.{Entry, Scopes, innermost, with_pending, Value, Breaks, Continues, Returns, Panics, Run, At, Over, Does, on_value, ◌>>◌, in_scopes}
 use Rattle.src_meaning.specs.Shape.{Aliases, NodeHead, head, Shape, shape}
 use Rattle.soundness_values.proofs.Leaving.{AllOf, ShownOut}
 use Rattle.soundness_frame.proofs.PassFrame as frame
 use Rattle.soundness_frame.proofs.PassFrameActs.{AllTake}
 use Rattle.soundness_frame.proofs.PassFrameBodies.{any_place}
+use Rattle.soundness_frame.proofs.PassFrameHeads as pass_frame_heads
+use Rattle.soundness_frame.proofs.PassFrameOperands as pass_frame_operands
 use Rattle.soundness_frame.proofs.PassFrameForms as by_form
-use Rattle.soundness_frame.proofs.PassFrameForms.{Calls, a_call, a_method, a_virtual, a_closure}
+use Rattle.soundness_frame.proofs.PassFrameHeads.{Calls, a_call, a_method, a_virtual, a_closure}
 use Rattle.soundness_values.proofs.PassHeads as heads
 use Rattle.soundness_frame.proofs.PassWithin as within
 use Rattle.soundness_frame.proofs.PassWithin.{AroundSo, passing}
 use Rattle.lower_ready.proofs.NamedFrames as frames
-use Rattle.lower_ready.proofs.NamedKept.{KeptSo, LostSo, AllApart, made_safe}
-use Rattle.lower_ready.proofs.NamedLines.{look, quiet, quiet_step, made_since, names_it, is_plain, place_same, place_sound, apart, unused}
+use Rattle.lower_ready.proofs.NamedKept.{AllApart, made_safe}
+use Rattle.lower_ready.proofs.NamedLines.{look, quiet_step, made_since, is_plain, place_same, place_sound, apart, unused}
 use Rattle.lower_ready.proofs.NamedWatch as watch
-use Rattle.lower_ready.proofs.NamedWatch.{Since, Unmade, Kept, Taken, Lost, NamedState}
-use Rattle.lower_ready.proofs.Noting.{Note, operand_notes, before, is_call, looked}
+use Rattle.lower_ready.proofs.NamedWatch.{Since, Unmade, Kept, Taken, Lost}
+use Rattle.lower_ready.proofs.Noting.{Note, operand_notes, before, looked}
 
 -- the arguments of a call, and what is done with them
 abbrev pub called_with : Form → Option (Nodes × (EffectSite → List Operand → Action))
@@ -350,7 +352,7 @@ module _ (items : ItemTable) (body_tree : BodyTree) (body : Body) (local : ℕ) 
         (frames.any_site items body_tree body local named) any_place MayCoerce MayTake
         Armed (frames.inner items body_tree body local named) nothing_said fuel
         (frames.inner_told items body_tree body local named)
-        (by_form.by_telling items q over (frames.any_action items body_tree body local named)
+        (pass_frame_operands.by_telling items q over (frames.any_action items body_tree body local named)
         (frames.any_site items body_tree body local named) any_place MayCoerce MayTake
         Armed (frames.inner items body_tree body local named) nothing_said fuel
         (frames.inner_calls items body_tree body local named)) rest around loops a
@@ -372,14 +374,14 @@ module _ (items : ItemTable) (body_tree : BodyTree) (body : Body) (local : ℕ) 
     away_none [] = tt
     away_none (s ∷ S) = tt
 
-    away_told : by_form.Telling items (frames.any_action items body_tree body local named)
+    away_told : pass_frame_heads.Telling items (frames.any_action items body_tree body local named)
         (frames.any_site items body_tree body local named) Says
     away_told = record {
       borrows = λ aliases loops id unique base s. tt;
       assigns = λ aliases loops id place value s. tt;
     }
 
-    away_calls : by_form.TellingCalls (frames.any_action items body_tree body local named) Says
+    away_calls : pass_frame_heads.TellingCalls (frames.any_action items body_tree body local named) Says
     away_calls = record {
       calls = λ aliases loops id key callee args s. tt;
       methods = λ aliases loops id key callee receiver args s. tt;
@@ -397,7 +399,7 @@ module _ (items : ItemTable) (body_tree : BodyTree) (body : Body) (local : ℕ) 
         (by_form.operands items q over (frames.any_action items body_tree body local named)
         (frames.any_site items body_tree body local named) any_place MayCoerce any_place
         Away (frames.away items body_tree body local named) Says fuel away_told
-        (by_form.by_telling items q over (frames.any_action items body_tree body local named)
+        (pass_frame_operands.by_telling items q over (frames.any_action items body_tree body local named)
         (frames.any_site items body_tree body local named) any_place MayCoerce any_place
         Away (frames.away items body_tree body local named) Says fuel away_calls) rest around loops a
         w)).kept 0 S v (away_none S) i)
@@ -597,14 +599,14 @@ module _ (items : ItemTable) (body_tree : BodyTree) (body : Body) (local : ℕ) 
           (fine_outer (does (to_own_key (is_never items ty) id to))
           (does_fine (to_own_key (is_never items ty) id to) says))
 
-    pub outer_told : by_form.Telling items (frames.NoCall items body_tree body local named)
+    pub outer_told : pass_frame_heads.Telling items (frames.NoCall items body_tree body local named)
         (frames.any_site items body_tree body local named) Says
     outer_told = record {
       borrows = λ aliases loops id unique base s c. false≢true c;
       assigns = λ aliases loops id place value s. tt;
     }
 
-    pub calling : by_form.AtCalls items q over (frames.NoCall items body_tree body local named)
+    pub calling : pass_frame_operands.AtCalls items q over (frames.NoCall items body_tree body local named)
         (frames.any_site items body_tree body local named) any_place MayCoerce any_place
         NotBad (frames.outer items body_tree body local named) Says fuel
     calling = record {

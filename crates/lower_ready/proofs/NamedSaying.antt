@@ -1,23 +1,21 @@
 -- What is to be known of each call of a body whose program is well typed and breaks no rule of borrows, from what the
 -- rules of typing say of the argument that makes the reference.
-use Rattle.std.proofs.Common.{◌≡◌, ◌⊎◌, inl, inr, ℕ, ◌==◌, Bool, true, false, List, [], ◌∷◌, ◌++◌, Option, Some, None, slice_get, refl, sym, ap, subst, ◌∙◌}
+use Rattle.std.proofs.Common.{◌≡◌, ◌⊎◌, inl, inr, ℕ, ◌==◌, true, false, List, [], ◌∷◌, ◌++◌, Option, slice_get, refl}
 use Rattle.std.proofs.lemmas.Bool.{false≢true}
-use Rattle.mir_base.specs.declared.place_in_text.Pos.{Pos}
 use Rattle.mir_ty.specs.declared.def.Sig.{Sig}
 use Rattle.mir_ty.specs.declared.def.TraitDef.{TraitDef}
 use Rattle.mir_ty.specs.declared.ty.TyId.{TyId}
 use Rattle.mir_ty.specs.ItemTable.{ItemTable}
-use Rattle.store_model.specs.Places.Place.{Place, whole_local}
+use Rattle.store_model.specs.Places.Place.{Place}
 use Rattle.cfg_graph.specs.declared.graph.Body.{Body}
-use Rattle.typed_tree.specs.declared.node.Use.{Use}
-use Rattle.typed_tree.specs.Nodes.{number_of, nodes_of, nodes_in, nodes_among}
+use Rattle.typed_tree.specs.Nodes.{number_of, nodes_of, nodes_among}
 use Rattle.typed_tree.specs.Tree as tree
-use Rattle.typed_tree.specs.Tree.{Node, node, Form, Nodes, no_node, a_node, BodyTree}
+use Rattle.typed_tree.specs.Tree.{Node, node, Nodes, no_node, a_node, BodyTree}
 use Rattle.src_meaning.specs.Locals.Effects.{place_at}
 use Rattle.src_meaning.specs.Locals.OfBody.{local_of}
 use Rattle.src_meaning.specs.Shape as shapes
 use Rattle.typing_rules.specs.Accesses as rules
-use Rattle.typing_rules.specs.Accesses.{Argument, all_told, arguments, argument, receiver_of, told, conflicting, conflicts_among, told_form, ◌⊕◌}
+use Rattle.typing_rules.specs.Accesses.{Argument, all_told, arguments, argument, receiver_of, told, conflicting, conflicts_among, ◌⊕◌}
 use Rattle.well_typed.specs.Claim.{Holds, fact, both, some}
 use Rattle.well_typed.specs.Nodes as typing
 use Rattle.well_typed.specs.Places.{Passed, form_of, is_borrow}
@@ -28,7 +26,7 @@ use Rattle.soundness_cells.proofs.PassFacts.{Standpoint, context, beside}
 use Rattle.soundness_frame.proofs.PassFrameBodies.{any_place}
 use Rattle.soundness_frame.proofs.PassTold as told_here
 use Rattle.soundness_frame.proofs.PassTold.{ids, KnownOf, Here, Told}
-use Rattle.soundness_frame.proofs.PassToldForms.{Saying}
+use Rattle.soundness_frame.proofs.PassToldBelow.{Saying}
 use Rattle.soundness_values.proofs.PlaceTypes.{some_holds}
 use Rattle.lower_ready.proofs.NamedArgs as args_of
 use Rattle.lower_ready.proofs.NamedArgs.{own_node}

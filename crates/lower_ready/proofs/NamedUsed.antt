@@ -181,19 +181,7 @@ module _ (body : Body) where
                 is_whole = subst (λ (l : ℕ). whole l to ≡ true) here w;
                 names = ap (λ (x : ℕ × Place). x.1) same;
               }
-      of_stmt n k block (Stmt.Put to from) b s f = absurd f
-      of_stmt n k block (Stmt.Compare to op left right) b s f = absurd f
-      of_stmt n k block (Stmt.Not to operand) b s f = absurd f
-      of_stmt n k block (Stmt.Tuple to parts) b s f = absurd f
-      of_stmt n k block (Stmt.Array to parts) b s f = absurd f
-      of_stmt n k block (Stmt.Make to adt variant parts) b s f = absurd f
-      of_stmt n k block (Stmt.Close to closure parts) b s f = absurd f
-      of_stmt n k block (Stmt.NewBox to operand) b s f = absurd f
-      of_stmt n k block (Stmt.Unsize to trait_no from) b s f = absurd f
-      of_stmt n k block (Stmt.Touch place) b s f = absurd f
-      of_stmt n k block (Stmt.Print operand) b s f = absurd f
-      of_stmt n k block (Stmt.Forget operand) b s f = absurd f
-      of_stmt n k block (Stmt.Free place) b s f = absurd f
+      of_stmt n k block other b s f = absurd f
 
   found_one : (local : ℕ) (place : Place) → named_by local (references_made body) ≡ Some place →
       (one : ℕ × Place) × ((find (λ (x : ℕ × Place). x.0 == local) (references_made body) ≡ Some one) × (one.1 ≡ place))

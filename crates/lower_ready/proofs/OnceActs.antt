@@ -207,30 +207,16 @@ module _ (g : Ground) (L K : ℕ) (about : About g L K) (Q : Type 0) where
   plain_act node (effects.CallVirtual to trait_no method args) h u = λ n v. (not_whole to h, λ q. (is_away to.place (u q).0, (u q).1))
 
   uncounted : (action : Action) → StoresWell action → counted.in_done F borrows (λ site value. refl) (done_by F action) ≡ 0
-  uncounted (effects.Put to from) h = refl
-  uncounted (effects.Compare to operator left right) h = refl
-  uncounted (effects.Not to operand) h = refl
-  uncounted (effects.Build to OfTuple parts) h = refl
-  uncounted (effects.Build to OfArray parts) h = refl
-  uncounted (effects.Build to (OfVariant adt variant) parts) h = refl
-  uncounted (effects.Build to (OfClosure closure) parts) h = refl
-  uncounted (effects.NewBox to content) h = refl
-  uncounted (effects.Unsize to trait_no operand) h = refl
   uncounted (effects.Borrow to unique base) h = ap (λ (b : Bool). counted.one_if F borrows (λ site value. refl) b) (sym (or_false _) ∙ not_whole to h)
     where
       or_false : (b : Bool) → b || false ≡ b
       or_false true = refl
       or_false false = refl
-  uncounted (effects.Touch base) h = refl
-  uncounted (effects.Print operand) h = refl
-  uncounted (effects.Forget operand) h = refl
-  uncounted (effects.Free box) h = refl
-  uncounted (effects.Compute to operator left right) h = refl
-  uncounted (effects.Negate to operand) h = refl
-  uncounted (effects.Bounds index count) h = refl
-  uncounted (effects.Call to body args) h = refl
-  uncounted (effects.CallVirtual to trait_no method args) h = refl
-  uncounted (effects.Ask to) h = refl
+  uncounted (effects.Build to OfTuple parts) h = refl
+  uncounted (effects.Build to OfArray parts) h = refl
+  uncounted (effects.Build to (OfVariant adt variant) parts) h = refl
+  uncounted (effects.Build to (OfClosure closure) parts) h = refl
+  uncounted other h = refl
 
   no_jumps : (node : ℕ) (action : Action) → (act F node action).jumps ≡ []
   no_jumps node action = by (is_last F action)

@@ -16,10 +16,9 @@ use Rattle.cfg_graph.specs.Uses.{stored_by_stmt, stored_by_term, places_of_stmt,
 use Rattle.store_model.specs.Places.Place.{Place, whole_local}
 use Rattle.lower_rules.specs.Build.{LoweringFrame, MadeBlock}
 use Rattle.lower_rules.specs.Lower as lower
-use Rattle.lower_rules.specs.Lower.{body_of}
 use Rattle.lower_rules.proofs.Lines as lines
 use Rattle.lower_laws.proofs.Base as base
-use Rattle.lower_laws.proofs.Base.{Ground, untrue, and_first, and_second, same_id, found}
+use Rattle.lower_laws.proofs.Base.{Ground}
 use Rattle.lower_laws.proofs.Names as names
 use Rattle.lower_ready.proofs.Counted as counted
 use Rattle.lower_ready.proofs.Once as once
@@ -91,19 +90,7 @@ module _ (g : Ground) (L K : ℕ) (about : About g L K) (Q : Type 0) where
       on : (f l : Bool) → (to.local == L) ≡ l → count_by made_here (if (true && f) && true then (to.local, named of) ∷ [] else []) ≡ one_if (((to.local == L) && f) && true)
       on true l d = same (to.local == L)
       on false l d = none (to.local == L)
-  made_by_one (Stmt.Put to from) = refl
-  made_by_one (Stmt.Compare to op left right) = refl
-  made_by_one (Stmt.Not to operand) = refl
-  made_by_one (Stmt.Tuple to parts) = refl
-  made_by_one (Stmt.Array to parts) = refl
-  made_by_one (Stmt.Make to adt variant parts) = refl
-  made_by_one (Stmt.Close to closure parts) = refl
-  made_by_one (Stmt.NewBox to operand) = refl
-  made_by_one (Stmt.Unsize to trait_no from) = refl
-  made_by_one (Stmt.Touch place) = refl
-  made_by_one (Stmt.Print operand) = refl
-  made_by_one (Stmt.Forget operand) = refl
-  made_by_one (Stmt.Free place) = refl
+  made_by_one other = refl
 
   abbrev pub in_stmts : List Stmt → ℕ
   in_stmts stmts = counted.in_stmts F (once.borrows g L K about Q) (λ site value. refl) stmts

@@ -1,38 +1,37 @@
 -- The forms beside a local of a reference type: one line a form.
-use Rattle.std.proofs.Common.{◌≡◌, inl, inr, ℕ, ◌+◌, ◌≤◌, ◌&&◌, not, Bool, true, false, List, [], ◌∷◌, ◌++◌, Option, Some, slice_get, cond, refl, sym, ap, subst, ◌∙◌}
+use Rattle.std.proofs.Common.{◌≡◌, inl, inr, ℕ, ◌+◌, ◌≤◌, ◌&&◌, not, Bool, true, false, List, [], ◌∷◌, ◌++◌, Option, slice_get, refl, sym, subst, ◌∙◌}
 use Rattle.std.specs.List.{list_all}
 use Rattle.mir_base.specs.declared.int_kind.IntKind.{IntKind}
 use Rattle.mir_base.specs.declared.place_in_text.Pos.{Pos}
 use Rattle.mir_base.specs.declared.trace.Why.{Why}
 use Rattle.mir_ty.specs.declared.ty.Ty.{Ty}
 use Rattle.mir_ty.specs.declared.ty.TyId.{TyId}
-use Rattle.mir_ty.specs.Facts.{needs_drop}
 use Rattle.store_model.specs.Effects as effects
-use Rattle.store_model.specs.Effects.{EffectSite, Action, OfTuple, OfArray, OfVariant, OfClosure}
-use Rattle.store_model.specs.Places.Place.{ToPart, ToContent, ToElement, Place, whole_local}
+use Rattle.store_model.specs.Effects.{OfTuple, OfArray, OfVariant, OfClosure}
+use Rattle.store_model.specs.Places.Place.{Place, whole_local}
 use Rattle.typed_tree.specs.declared.node.Use.{Use}
-use Rattle.typed_tree.specs.Nodes.{number_of, nodes_of, nodes_in, nodes_among, nodes_of_fields, nodes_if_any}
+use Rattle.typed_tree.specs.Nodes.{nodes_of, nodes_in, nodes_among, nodes_of_fields, nodes_if_any}
 use Rattle.typed_tree.specs.Tree as tree
 use Rattle.typed_tree.specs.Tree.{Node, Form, Nodes, no_node, a_node, Fields, no_field, a_field, MaybeNode, absent, present}
 use Rattle.src_meaning.specs.Evaluation.{in_number_order}
-use Rattle.src_meaning.specs.Forms.{Destination, Into, coerced, LoopsAndGuards, in_loop, loop_destination, in_guard, site_of_key, moved}
+use Rattle.src_meaning.specs.Forms.{Destination, Into, LoopsAndGuards, loop_destination, in_guard}
 use Rattle.src_meaning.specs.Locals.OfBody.{cells, reached_cells, cells_in, all_cells, cells_of_fields, cells_if_any}
 use Rattle.src_meaning.specs.Scopes.{Entry, Breaks, Continues, Returns, innermost}
-use Rattle.src_meaning.specs.Shape.{NodeHead, head, Shape, kind_of, shape, shape_of, site_at}
+use Rattle.src_meaning.specs.Shape.{NodeHead, head, Shape, kind_of, shape, shape_of}
 use Rattle.src_meaning.specs.FieldKeys.{field_keys, moved_fields}
 use Rattle.well_typed.specs.Claim.{Holds}
 use Rattle.well_typed.specs.Nodes as typing
 use Rattle.well_typed.specs.Patterns.{Matched, entries_of}
 use Rattle.well_typed.specs.Places as scopes
-use Rattle.well_typed.specs.Places.{InScope, LoopAround, Context, Standing, Taken, Wanted, Passed, Base, Used, Stored, with_entries, within, entry_with, loop_with, ty_of, form_of}
+use Rattle.well_typed.specs.Places.{InScope, LoopAround, Context, Standing, Taken, Wanted, Passed, Base, Used, Stored, with_entries, within, loop_with, ty_of, form_of}
 use Rattle.well_typed.specs.Types as types
 use Rattle.lower_rules.specs.Build as build
-use Rattle.lower_rules.specs.Build.{LoweringFrame, Lowers, act, change, from_changed, then_lower, leave, looped}
+use Rattle.lower_rules.specs.Build.{LoweringFrame, Lowers, then_lower}
 use Rattle.lower_rules.specs.Lower as lower
-use Rattle.lower_rules.specs.Lower.{NodeLower, LowerIfAny}
-use Rattle.lower_rules.proofs.KnownTypes.{tuple_known, array_known, boxed_known, i32_known, signed_known}
+use Rattle.lower_rules.specs.Lower.{NodeLower}
+use Rattle.lower_rules.proofs.KnownTypes.{tuple_known, array_known, i32_known}
 use Rattle.lower_laws.proofs.Base as base
-use Rattle.lower_laws.proofs.Base.{Ground, untrue, and_first, and_second, and_false, both_false, either, same_id, found}
+use Rattle.lower_laws.proofs.Base.{Ground, untrue, and_first, and_second, both_false, same_id, found}
 use Rattle.lower_laws.proofs.Branches as forms_of_branches
 use Rattle.lower_laws.proofs.Forms as forms_of
 use Rattle.lower_laws.proofs.MovedOut as moved_out
@@ -46,6 +45,9 @@ use Rattle.lower_ready.proofs.OncePatterns as pattern_rules
 use Rattle.lower_ready.proofs.OnceParts as by_part
 use Rattle.lower_ready.proofs.OnceRules as by_rule
 use Rattle.lower_ready.proofs.OnceStanding as standing
+use Rattle.lower_ready.proofs.OnceOperators as once_operators
+use Rattle.lower_ready.proofs.OnceOperators.{not_true, field_known, deref_known, not_known, negate_known, arithmetic_known, comparison_known, box_known, print_known, forget_known, drop_known, unsize_known, index_known, and_known, or_known, assign_known}
+use Rattle.lower_ready.proofs.OnceBranching.{if_known, if_else_known, if_let_known, if_let_else_known, loop_known, while_known, while_let_known, break_known, return_known}
 
 module _ (g : Ground) (L K : ℕ) (about : About g L K) (Q : Type 0) where
   abbrev F : LoweringFrame
@@ -90,9 +92,6 @@ module _ (g : Ground) (L K : ℕ) (about : About g L K) (Q : Type 0) where
   abbrev Child : Context → Node → NodeLower → Type 0
   Child x n m = by_rule.Child g L K about Q x n m
 
-  abbrev Valued : Node → Type 0
-  Valued n = by_rule.Valued g L K about Q n
-
   abbrev Others : List InScope → Type 0
   Others es = by_rule.Others g L K about Q es
 
@@ -109,11 +108,7 @@ module _ (g : Ground) (L K : ℕ) (about : About g L K) (Q : Type 0) where
   more loops P m n le p = once.more g L K about Q Free loops P m n le p
 
   abbrev and_then : (loops : List LoopAround) (P Q' : Lowers) (o r : ℕ) → Once Free loops P o → (P.has_end ≡ true → Once Free loops Q' r) → Once Free loops (then_lower P Q') (o + r)
-  and_then loops P Q' o r p q = once.and_then g L K about Q Free loops P Q' o r p q
-
-  not_true : (b : Bool) → not b ≡ true → b ≡ false
-  not_true true h = absurd (untrue h)
-  not_true false h = refl
+  and_then = once_operators.and_then g L K about Q
 
   -- ---- the forms
   mutual
@@ -153,97 +148,25 @@ module _ (g : Ground) (L K : ℕ) (about : About g L K) (Q : Type 0) where
         (λ c a ar. once.nothing_done g L K about Q Free x.loops)
         (λ c a ar e. by_part.captured_ok g L K about Q x closure part name ty h a ar)
     known (tree.Field inner part) x id at ty by p good h r =
-        let b = child x inner Base refl (standing.base_plain g L K about Q x inner h.0) h.0 r in
-        nodes.place_known g L K about Q x id at ty by (tree.Field inner part) (S_of (tree.Field inner part) (head id ty by)) (N inner).reaches good (λ o c. (base.cells_second g _ (cells_in g.items (tree.Field inner part)) c)) (λ o c v. (rw v at c).0) refl
-        (λ c a ar. b.known.reaches c a ar)
-        (λ c a ar e. by_part.further_ok g L K about Q ty ((shape g.items inner).place a.aliases) (ToPart part) (by_part.reached_away g L K about Q x inner b c a ar e))
+        field_known g L K about Q x inner part id at ty by good h (child x inner Base refl (standing.base_plain g L K about Q x inner h.0) h.0 r)
     known (tree.Deref inner) x id at ty by p good h r =
-        let b = child x inner Base refl (standing.base_plain g L K about Q x inner h.0) h.0 r in
-        nodes.place_known g L K about Q x id at ty by (tree.Deref inner) (S_of (tree.Deref inner) (head id ty by)) (N inner).reaches good (λ o c. (base.cells_second g _ (cells_in g.items (tree.Deref inner)) c)) (λ o c v. (rw v at c).0) refl
-        (λ c a ar. b.known.reaches c a ar)
-        (λ c a ar e. by_part.further_ok g L K about Q ty ((shape g.items inner).place a.aliases) ToContent (by_part.reached_away g L K about Q x inner b c a ar e))
+        deref_known g L K about Q x inner id at ty by good h (child x inner Base refl (standing.base_plain g L K about Q x inner h.0) h.0 r)
     known (tree.Index inner index count) x id at ty by p good h r =
-        let b = child x inner Base refl (standing.base_plain g L K about Q x inner h.0) h.0 (base.rise_first g (nodes_of inner) (nodes_of index) r) in
-        let i = taken_child x index h.1.0 (base.rise_second g (nodes_of inner) (nodes_of index) r) in
-        let v = (standing.taken_stands g L K about Q x index h.1.0).valued in
-        nodes.place_known g L K about Q x id at ty by (tree.Index inner index count) (S_of (tree.Index inner index count) (head id ty by)) (lower.reach_element F (head id ty by) (S_of (tree.Index inner index count) (head id ty by)) (N inner) (N index) count) good (λ o c. (base.cells_second g _ (cells_in g.items (tree.Index inner index count)) c)) (λ o c v. (rw v at c).0) refl
-        (λ c a ar.
-        let ci = base.cells_second g (reached_cells g.items inner) (cells g.items true index) c in
-        let cb = base.cells_first g (reached_cells g.items inner) (cells g.items true index) c in
-        more x.loops _ (occ (reached_cells g.items inner) + (occ (cells g.items true index) + (0 + 0))) _ (standing.index_under g L K about Q (reached_cells g.items inner) (cells g.items true index))
-        (and_then x.loops ((N inner).reaches a) _ (occ (reached_cells g.items inner)) (occ (cells g.items true index) + (0 + 0)) (b.known.reaches cb a ar)
-        (λ e. and_then x.loops ((N index).evaluates a false (Into (N index).head.id)) _ (occ (cells g.items true index)) (0 + 0) (i.known.evaluates true ci v a ar false (Into (N index).head.id) (by_rule.dest_own g L K about Q x index (N index) i ci))
-        (λ d. and_then x.loops _ _ 0 0 (on.acts g L K about Q Free x.loops id (effects.Touch (site_at (head id ty by) (lower.array_around F ((S_of (tree.Index inner index count) (head id ty by)).place a.aliases)))) tt (λ q. by_part.reached_away g L K about Q x inner b cb a ar e q) (λ z q. by_part.reached_away g L K about Q x inner b cb a ar e q))
-        (λ w. on.acts g L K about Q Free x.loops (N index).head.id (effects.Bounds (effects.Copied (site_of_key (N index).head.id)) count) tt (λ q. (λ k. by_rule.out g L K about Q x index (N index) i ci v a ar false (Into (N index).head.id) d k, tt)) (λ z q. (λ k. by_rule.out g L K about Q x index (N index) i ci v a ar false (Into (N index).head.id) d k, tt)))))))
-        (λ c a ar e. by_part.further_ok g L K about Q ty ((shape g.items inner).place a.aliases) (ToElement (number_of index)) (by_part.reached_away g L K about Q x inner b (base.cells_first g (reached_cells g.items inner) (cells g.items true index) c) a ar (and_first ((N inner).reaches a).has_end _ e)))
+        index_known g L K about Q x inner index count id at ty by good h (child x inner Base refl (standing.base_plain g L K about Q x inner h.0) h.0 (base.rise_first g (nodes_of inner) (nodes_of index) r)) (taken_child x index h.1.0 (base.rise_second g (nodes_of inner) (nodes_of index) r))
     known (tree.Not operand) x id at ty by p good h r =
-        let k = taken_child x operand h.0 r in
-        nodes.operating g L K about Q Free x id at ty by (tree.Not operand) (S_of (tree.Not operand) (head id ty by)) (N operand ∷ []) (λ site. effects.Not site (moved id (N operand).head.id)) good (λ c. c) (λ a. refl) (standing.bool_no g L K about Q ty h.1.1)
-        (λ o c v k. base.never_and_made g ty v (standing.bool_made g L K about Q ty h.1.1))
-        (λ o c. by_part.one_operand g L K about Q x operand k (base.cells_second g _ (cells_in g.items (tree.Not operand)) c) (standing.taken_stands g L K about Q x operand h.0).valued)
-        (λ H f u i k away. (λ e z. away e, (λ q. (away, (λ e. u tt (inl e), tt)), λ a q. (away, (λ e. f a (inl e), tt)))))
+        not_known g L K about Q x operand id at ty by good h (taken_child x operand h.0 r)
     known (tree.Negate operand) x id at ty by p good h r =
-        let k = taken_child x operand h.0 r in
-        let t = signed_known g.items ty h.1.1 in
-        nodes.operating g L K about Q Free x id at ty by (tree.Negate operand) (S_of (tree.Negate operand) (head id ty by)) (N operand ∷ []) (λ site. effects.Negate site (moved id (N operand).head.id)) good (λ c. c) (λ a. refl) (standing.no_ref g L K about Q ty (Ty.Int t.0) t.1 refl)
-        (λ o c v k. base.never_and_made g ty v (nodes.made_of g L K about Q ty (Ty.Int t.0) t.1 refl))
-        (λ o c. by_part.one_operand g L K about Q x operand k (base.cells_second g _ (cells_in g.items (tree.Negate operand)) c) (standing.taken_stands g L K about Q x operand h.0).valued)
-        (λ H f u i k away. (λ e z. away e, (λ q. (away, (λ e. u tt (inl e), tt)), λ a q. (away, (λ e. f a (inl e), tt)))))
+        negate_known g L K about Q x operand id at ty by good h (taken_child x operand h.0 r)
     known (tree.Arithmetic operator left right) x id at ty by p good h r =
-        let k = wanted_child x ty left h.0 (base.rise_first g (nodes_of left) (nodes_of right) r) in
-        let l = wanted_child x ty right h.1.0 (base.rise_second g (nodes_of left) (nodes_of right) r) in
-        let t = standing.int_at g L K about Q ty h.1.1.0 in
-        nodes.operating g L K about Q Free x id at ty by (tree.Arithmetic operator left right) (S_of (tree.Arithmetic operator left right) (head id ty by)) (N left ∷ N right ∷ []) (λ site. effects.Compute site operator (moved id (N left).head.id) (moved id (N right).head.id)) good (λ c. c) (λ a. refl) (standing.no_ref g L K about Q ty (Ty.Int t.0) t.1 refl)
-        (λ o c v k. base.never_and_made g ty v (nodes.made_of g L K about Q ty (Ty.Int t.0) t.1 refl))
-        (λ o c. by_part.two_operands g L K about Q x left right k l (base.cells_second g _ (cells_in g.items (tree.Arithmetic operator left right)) c) (standing.wanted_stands g L K about Q x ty left h.0).valued (standing.wanted_stands g L K about Q x ty right h.1.0).valued)
-        (λ H f u i k away. (λ e z. away e, (λ q. (away, (λ e. u tt (inl e), (λ e. u tt (inr (inl e)), tt))), λ a q. (away, (λ e. f a (inl e), (λ e. f a (inr (inl e)), tt))))))
+        arithmetic_known g L K about Q x operator left right id at ty by good h (wanted_child x ty left h.0 (base.rise_first g (nodes_of left) (nodes_of right) r)) (wanted_child x ty right h.1.0 (base.rise_second g (nodes_of left) (nodes_of right) r))
     known (tree.Comparison operator left right) x id at ty by p good h r =
-        let k = taken_child x left h.0 (base.rise_first g (nodes_of left) (nodes_of right) r) in
-        let l = taken_child x right h.1.0 (base.rise_second g (nodes_of left) (nodes_of right) r) in
-        nodes.operating g L K about Q Free x id at ty by (tree.Comparison operator left right) (S_of (tree.Comparison operator left right) (head id ty by)) (N left ∷ N right ∷ []) (λ site. effects.Compare site operator (moved id (N left).head.id) (moved id (N right).head.id)) good (λ c. c) (λ a. refl) (standing.bool_no g L K about Q ty h.1.1.1)
-        (λ o c v k. base.never_and_made g ty v (standing.bool_made g L K about Q ty h.1.1.1))
-        (λ o c. by_part.two_operands g L K about Q x left right k l (base.cells_second g _ (cells_in g.items (tree.Comparison operator left right)) c) (standing.taken_stands g L K about Q x left h.0).valued (standing.taken_stands g L K about Q x right h.1.0).valued)
-        (λ H f u i k away. (λ e z. away e, (λ q. (away, (λ e. u tt (inl e), (λ e. u tt (inr (inl e)), tt))), λ a q. (away, (λ e. f a (inl e), (λ e. f a (inr (inl e)), tt))))))
+        comparison_known g L K about Q x operator left right id at ty by good h (taken_child x left h.0 (base.rise_first g (nodes_of left) (nodes_of right) r)) (taken_child x right h.1.0 (base.rise_second g (nodes_of left) (nodes_of right) r))
     known (tree.And left right) x id at ty by p good h r =
-        let k = taken_child x left h.0 (base.rise_first g (nodes_of left) (nodes_of right) r) in
-        let l = taken_child x right h.1.0 (base.rise_second g (nodes_of left) (nodes_of right) r) in
-        nodes.flow g L K about Q x id at ty by (tree.And left right) (S_of (tree.And left right) (head id ty by)) _ good (λ c. c) (λ a. refl)
-        (λ o c a ar own to d nv.
-        let cs = (base.cells_second g _ (cells_in g.items (tree.And left right)) c) in
-        let cl = base.cells_first g (cells g.items true left) (cells g.items false right) cs in
-        let cr = base.cells_second g (cells g.items true left) (cells g.items false right) cs in
-        let clear = d (standing.bool_no g L K about Q ty h.1.1.1.1) (standing.bool_made g L K about Q ty h.1.1.1.1) in
-        by_rule.owned g L K about Q x.loops (head id ty by) own _ _ (more x.loops _ _ _ (standing.and_under g L K about Q (cells g.items true left) (cells g.items false right))
-        (nodes.conditioned g L K about Q x left (N left) k cl (standing.taken_stands g L K about Q x left h.0).valued a ar _ _ (occ (cells g.items false right)) 0 (nodes.alone g L K about Q x right (N right) l false cr (standing.taken_stands g L K about Q x right h.1.0).valued a ar to (λ n m. clear)) (by_rule.delivered g L K about Q Free x.loops id (head id ty by) (λ site. effects.Put site (effects.Truth false)) to clear (by_rule.puts g L K about Q Free (effects.Truth false) (λ q. tt))))))
-        (λ o c ref a ar own to. absurd (by_rule.not_both g L K about Q ty ref (standing.bool_no g L K about Q ty h.1.1.1.1)))
+        and_known g L K about Q x left right id at ty by good h (taken_child x left h.0 (base.rise_first g (nodes_of left) (nodes_of right) r)) (taken_child x right h.1.0 (base.rise_second g (nodes_of left) (nodes_of right) r))
     known (tree.Or left right) x id at ty by p good h r =
-        let k = taken_child x left h.0 (base.rise_first g (nodes_of left) (nodes_of right) r) in
-        let l = taken_child x right h.1.0 (base.rise_second g (nodes_of left) (nodes_of right) r) in
-        nodes.flow g L K about Q x id at ty by (tree.Or left right) (S_of (tree.Or left right) (head id ty by)) _ good (λ c. c) (λ a. refl)
-        (λ o c a ar own to d nv.
-        let cs = (base.cells_second g _ (cells_in g.items (tree.Or left right)) c) in
-        let cl = base.cells_first g (cells g.items true left) (cells g.items false right) cs in
-        let cr = base.cells_second g (cells g.items true left) (cells g.items false right) cs in
-        let clear = d (standing.bool_no g L K about Q ty h.1.1.1.1) (standing.bool_made g L K about Q ty h.1.1.1.1) in
-        by_rule.owned g L K about Q x.loops (head id ty by) own _ _ (more x.loops _ _ _ (standing.or_under g L K about Q (cells g.items true left) (cells g.items false right))
-        (nodes.conditioned g L K about Q x left (N left) k cl (standing.taken_stands g L K about Q x left h.0).valued a ar _ _ 0 (occ (cells g.items false right)) (by_rule.delivered g L K about Q Free x.loops id (head id ty by) (λ site. effects.Put site (effects.Truth true)) to clear (by_rule.puts g L K about Q Free (effects.Truth true) (λ q. tt))) (nodes.alone g L K about Q x right (N right) l false cr (standing.taken_stands g L K about Q x right h.1.0).valued a ar to (λ n m. clear)))))
-        (λ o c ref a ar own to. absurd (by_rule.not_both g L K about Q ty ref (standing.bool_no g L K about Q ty h.1.1.1.1)))
+        or_known g L K about Q x left right id at ty by good h (taken_child x left h.0 (base.rise_first g (nodes_of left) (nodes_of right) r)) (taken_child x right h.1.0 (base.rise_second g (nodes_of left) (nodes_of right) r))
     known (tree.Assign target value_) x id at ty by p good h r =
-        let t = child x target Stored refl (standing.stored_stands g L K about Q x target h.0).0 h.0 (base.rise_first g (nodes_of target) (nodes_of value_) r) in
-        let k = wanted_child x (ty_of target) value_ h.1.1.0 (base.rise_second g (nodes_of target) (nodes_of value_) r) in
-        let v = (standing.wanted_stands g L K about Q x (ty_of target) value_ h.1.1.0).valued in
-        nodes.flow g L K about Q x id at ty by (tree.Assign target value_) (S_of (tree.Assign target value_) (head id ty by)) _ good (λ c. c) (λ a. refl)
-        (λ o c a ar own to d nv.
-        let cs = (base.cells_second g _ (cells_in g.items (tree.Assign target value_)) c) in
-        let ct = base.cells_first g (reached_cells g.items target) (cells g.items true value_) cs in
-        let cv = base.cells_second g (reached_cells g.items target) (cells g.items true value_) cs in
-        once.scoped g L K about Q Free x.loops id own _ _ (more x.loops _ _ _ (standing.assign_under g L K about Q (reached_cells g.items target) (cells g.items true value_))
-        (and_then x.loops (lower.operand F a (N value_)) _ (occ (cells g.items true value_)) (occ (reached_cells g.items target) + (0 + 0)) (by_rule.operand_is g L K about Q Free x value_ (N value_) k cv v a ar).0
-        (λ e. and_then x.loops ((N target).reaches a) _ (occ (reached_cells g.items target)) (0 + 0) (t.known.reaches ct a ar)
-        (λ w. and_then x.loops _ _ 0 0 (on.replaced g L K about Q x.loops (needs_drop g.items (N target).head.ty) (lower.site_of (N target) a) (N value_).head.id ((t.known.place ct a ar w).1 (standing.stored_stands g L K about Q x target h.0).1)
-        (λ q. ((t.known.place ct a ar w).0 q, λ z. by_rule.out g L K about Q x value_ (N value_) k cv v a ar false (Into (N value_).head.id) (and_first ((N value_).evaluates a false (Into (N value_).head.id)).has_end true e) z)))
-        (λ z. by_rule.unit_put g L K about Q Free x.loops (head id ty by) to (d (standing.unit_no g L K about Q ty h.1.1.1) (standing.unit_made g L K about Q ty h.1.1.1))))))))
-        (λ o c ref a ar own to. absurd (by_rule.not_both g L K about Q ty ref (standing.unit_no g L K about Q ty h.1.1.1)))
+        assign_known g L K about Q x target value_ id at ty by good h (child x target Stored refl (standing.stored_stands g L K about Q x target h.0).0 h.0 (base.rise_first g (nodes_of target) (nodes_of value_) r)) (wanted_child x (ty_of target) value_ h.1.1.0 (base.rise_second g (nodes_of target) (nodes_of value_) r))
     known (tree.Call callee args) x id at ty by p good h r =
         let sig = found (slice_get g.items.bodies callee) _ h.0 in
         let nr = subst NotRef (sym (same_id ty sig.0.result sig.2.0)) (about.results callee sig.0 sig.1) in
@@ -303,41 +226,19 @@ module _ (g : Ground) (L K : ℕ) (about : About g L K) (Q : Type 0) where
         (λ H f u i k away. (λ e z. away e, (λ q. (away, by_rule.all_away g L K about Q id (lower.lower_all F captures) (u tt)), λ a q. (away, by_rule.all_away g L K about Q id (lower.lower_all F captures) (f a)))))
     known (tree.NewBox content) x id at ty by p good h r =
         let e = found (types.boxed_of g.items ty) _ h in
-        let t = boxed_known g.items ty e.0 e.1 in
-        let k = wanted_child x e.0 content e.2.0 r in
-        nodes.operating g L K about Q Free x id at ty by (tree.NewBox content) (S_of (tree.NewBox content) (head id ty by)) (N content ∷ []) (λ site. effects.NewBox site (moved id (N content).head.id)) good (λ c. c) (λ a. refl) (standing.no_ref g L K about Q ty (Ty.Boxed e.0) t refl)
-        (λ o c v k. base.never_and_made g ty v (nodes.made_of g L K about Q ty (Ty.Boxed e.0) t refl))
-        (λ o c. by_part.one_operand g L K about Q x content k (base.cells_second g _ (cells_in g.items (tree.NewBox content)) c) (standing.wanted_stands g L K about Q x e.0 content e.2.0).valued)
-        (λ H f u i k away. (λ e z. away e, (λ q. (away, (λ e. u tt (inl e), tt)), λ a q. (away, (λ e. f a (inl e), tt)))))
+        box_known g L K about Q x content id at ty by good h (wanted_child x e.0 content e.2.0 r)
     known (tree.Print operand) x id at ty by p good h r =
-        let k = taken_child x operand h.0 r in
-        nodes.giving_unit g L K about Q x id at ty by (tree.Print operand) (S_of (tree.Print operand) (head id ty by)) (N operand) effects.Print good (λ c. c) (λ a. refl) (standing.unit_no g L K about Q ty h.1.1) (standing.unit_made g L K about Q ty h.1.1)
-        (λ o c. by_part.one_operand g L K about Q x operand k (base.cells_second g _ (cells_in g.items (tree.Print operand)) c) (standing.taken_stands g L K about Q x operand h.0).valued) tt (λ f. (f, tt)) (λ f. (f, tt))
+        print_known g L K about Q x operand id at ty by good h (taken_child x operand h.0 r)
     known (tree.Forget operand) x id at ty by p good h r =
-        let k = taken_child x operand h.0 r in
-        nodes.giving_unit g L K about Q x id at ty by (tree.Forget operand) (S_of (tree.Forget operand) (head id ty by)) (N operand) effects.Forget good (λ c. c) (λ a. refl) (standing.unit_no g L K about Q ty h.1) (standing.unit_made g L K about Q ty h.1)
-        (λ o c. by_part.one_operand g L K about Q x operand k (base.cells_second g _ (cells_in g.items (tree.Forget operand)) c) (standing.taken_stands g L K about Q x operand h.0).valued) tt (λ f. (f, tt)) (λ f. (f, tt))
+        forget_known g L K about Q x operand id at ty by good h (taken_child x operand h.0 r)
     known (tree.DropValue operand) x id at ty by p good h r =
-        let k = taken_child x operand h.0 r in
-        nodes.flow g L K about Q x id at ty by (tree.DropValue operand) (S_of (tree.DropValue operand) (head id ty by)) _ good (λ c. c) (λ a. refl)
-        (λ o c a ar own to d nv. once.scoped g L K about Q Free x.loops id own _ _ (more x.loops _ (occ (cells g.items true operand) + 0) _ (nodes.no_more g L K about Q _)
-        (and_then x.loops (lower.operand F a (N operand)) _ (occ (cells g.items true operand)) 0 (by_rule.operand_is g L K about Q Free x operand (N operand) k (base.cells_second g _ (cells_in g.items (tree.DropValue operand)) c) (standing.taken_stands g L K about Q x operand h.0).valued a ar).0
-        (λ e. by_rule.unit_put g L K about Q Free x.loops (head id ty by) to (d (standing.unit_no g L K about Q ty h.1) (standing.unit_made g L K about Q ty h.1))))))
-        (λ o c ref a ar own to. absurd (by_rule.not_both g L K about Q ty ref (standing.unit_no g L K about Q ty h.1)))
+        drop_known g L K about Q x operand id at ty by good h (taken_child x operand h.0 r)
     known tree.Panic x id at ty by p good h r =
         nodes.flow g L K about Q x id at ty by tree.Panic (S_of tree.Panic (head id ty by)) _ good (λ c. c) (λ a. refl) (λ o c a ar own to d nv. once.panicked g L K about Q x.loops id Why.Explicit) (λ o c ref a ar own to. refl)
     known (tree.Borrow unique inner) x id at ty by p good h r =
         absurd (untrue (sym p))
     known (tree.Unsize trait_no operand) x id at ty by p good h r =
-        let k = taken_child x operand h.0 r in
-        let t = by_part.box_at g L K about Q ty (ty_of operand) trait_no h.1.1 in
-        let nr = standing.no_ref g L K about Q ty (Ty.Boxed t.0) t.1 refl in
-        nodes.flow g L K about Q x id at ty by (tree.Unsize trait_no operand) (S_of (tree.Unsize trait_no operand) (head id ty by)) _ good (λ c. c) (λ a. refl)
-        (λ o c a ar own to d nv.
-        let cs = (base.cells_second g _ (cells_in g.items (tree.Unsize trait_no operand)) c) in
-        k.known.evaluates true cs (standing.taken_stands g L K about Q x operand h.0).valued a ar own (coerced (N operand).head.id trait_no to)
-        (λ n m. by_part.coerced_clear g L K about Q (N operand).head.id trait_no to (by_rule.dest_own g L K about Q x operand (N operand) k cs n m) (d nr (nodes.made_of g L K about Q ty (Ty.Boxed t.0) t.1 refl))))
-        (λ o c ref a ar own to. absurd (by_rule.not_both g L K about Q ty ref nr))
+        unsize_known g L K about Q x trait_no operand id at ty by good h (taken_child x operand h.0 r)
     known (tree.Block stmts tail) x id at ty by p good h r =
         let rs = base.rise_first g (nodes_among stmts) (nodes_if_any tail) r in
         let rt = base.rise_second g (nodes_among stmts) (nodes_if_any tail) r in
@@ -358,103 +259,22 @@ module _ (g : Ground) (L K : ℕ) (about : About g L K) (Q : Type 0) where
         (λ e. let y = st.1 e in tail_ended y.0 stmts tail y.1 rt (base.cells_second g (all_cells g.items stmts) (cells_if_any g.items false tail) cs) id ty by h.1 ref a y.3 to)))
     known (tree.If condition consequent absent) x id at ty by p good h r =
         let rr = base.rise_first g (nodes_of condition ++ nodes_of consequent) [] r in
-        let k = taken_child x condition h.0 (base.rise_first g (nodes_of condition) (nodes_of consequent) rr) in
-        let l = taken_child x consequent h.1.1.0 (base.rise_second g (nodes_of condition) (nodes_of consequent) rr) in
-        nodes.flow g L K about Q x id at ty by (tree.If condition consequent absent) (S_of (tree.If condition consequent absent) (head id ty by)) _ good (λ c. c) (λ a. refl)
-        (λ o c a ar own to d nv.
-        let cs = base.cells_first g (cells g.items true condition ++ cells g.items false consequent) [] (base.cells_second g _ (cells_in g.items (tree.If condition consequent absent)) c) in
-        let c1 = base.cells_first g (cells g.items true condition) (cells g.items false consequent) cs in
-        let c2 = base.cells_second g (cells g.items true condition) (cells g.items false consequent) cs in
-        let clear = d (standing.unit_no g L K about Q ty h.1.1.1.1) (standing.unit_made g L K about Q ty h.1.1.1.1) in
-        by_rule.owned g L K about Q x.loops (head id ty by) own _ _ (more x.loops _ _ _ (standing.three_under g L K about Q (cells g.items true condition) (cells g.items false consequent) [])
-        (nodes.conditioned g L K about Q x condition (N condition) k c1 (standing.taken_stands g L K about Q x condition h.0).valued a ar _ _ (occ (cells g.items false consequent)) 0
-        (nodes.alone g L K about Q x consequent (N consequent) l false c2 (standing.taken_stands g L K about Q x consequent h.1.1.0).valued a ar to (λ n m. clear)) (by_rule.unit_put g L K about Q Free x.loops (head id ty by) to clear))))
-        (λ o c ref a ar own to. absurd (by_rule.not_both g L K about Q ty ref (standing.unit_no g L K about Q ty h.1.1.1.1)))
+        if_known g L K about Q x condition consequent id at ty by good h (taken_child x condition h.0 (base.rise_first g (nodes_of condition) (nodes_of consequent) rr)) (taken_child x consequent h.1.1.0 (base.rise_second g (nodes_of condition) (nodes_of consequent) rr))
     known (tree.If condition consequent (present otherwise)) x id at ty by p good h r =
         let rr = base.rise_first g (nodes_of condition ++ nodes_of consequent) (nodes_of otherwise) r in
-        let k = taken_child x condition h.0 (base.rise_first g (nodes_of condition) (nodes_of consequent) rr) in
-        let l = taken_child x consequent h.1.1.0 (base.rise_second g (nodes_of condition) (nodes_of consequent) rr) in
-        let w = taken_child x otherwise h.1.1.1.0 (base.rise_second g (nodes_of condition ++ nodes_of consequent) (nodes_of otherwise) r) in
-        let f1 = by_part.common_first g L K about Q ty (ty_of consequent) (ty_of otherwise) h.1.1.1.1 in
-        let f2 = by_part.common_second g L K about Q ty (ty_of consequent) (ty_of otherwise) h.1.1.1.1 in
-        let v1 = (standing.taken_stands g L K about Q x consequent h.1.1.0).valued in
-        let v2 = (standing.taken_stands g L K about Q x otherwise h.1.1.1.0).valued in
-        nodes.flow g L K about Q x id at ty by (tree.If condition consequent (present otherwise)) (S_of (tree.If condition consequent (present otherwise)) (head id ty by)) _ good (λ c. c) (λ a. refl)
-        (λ o c a ar own to d nv.
-        let all = (base.cells_second g _ (cells_in g.items (tree.If condition consequent (present otherwise))) c) in
-        let cs = base.cells_first g (cells g.items true condition ++ cells g.items false consequent) (cells g.items false otherwise) all in
-        let c1 = base.cells_first g (cells g.items true condition) (cells g.items false consequent) cs in
-        let c2 = base.cells_second g (cells g.items true condition) (cells g.items false consequent) cs in
-        let c3 = base.cells_second g (cells g.items true condition ++ cells g.items false consequent) (cells g.items false otherwise) all in
-        by_rule.owned g L K about Q x.loops (head id ty by) own _ _ (more x.loops _ _ _ (standing.three_under g L K about Q (cells g.items true condition) (cells g.items false consequent) (cells g.items false otherwise))
-        (nodes.conditioned g L K about Q x condition (N condition) k c1 (standing.taken_stands g L K about Q x condition h.0).valued a ar _ _ (occ (cells g.items false consequent)) (occ (cells g.items false otherwise))
-        (nodes.alone g L K about Q x consequent (N consequent) l false c2 v1 a ar to (by_rule.dest_fits g L K about Q to ty (ty_of consequent) (base.fits g ty (ty_of consequent) f1) d))
-        (nodes.alone g L K about Q x otherwise (N otherwise) w false c3 v2 a ar to (by_rule.dest_fits g L K about Q to ty (ty_of otherwise) (base.fits g ty (ty_of otherwise) f2) d)))))
-        (λ o c ref a ar own to.
-        let all = (base.cells_second g _ (cells_in g.items (tree.If condition consequent (present otherwise))) c) in
-        let cs = base.cells_first g (cells g.items true condition ++ cells g.items false consequent) (cells g.items false otherwise) all in
-        let c2 = base.cells_second g (cells g.items true condition) (cells g.items false consequent) cs in
-        let c3 = base.cells_second g (cells g.items true condition ++ cells g.items false consequent) (cells g.items false otherwise) all in
-        rules.no_end_owned g (head id ty by) own _ (rules.no_end_second g (lower.alone F a (N condition) (Into (N condition).head.id)) (build.branches (N condition).head.id (build.if_true F (moved (N condition).head.id (N condition).head.id) (N condition).head.id) (lower.alone F a (N consequent) to) (lower.alone F a (N otherwise) to))
-        (both_false _ _ (by_part.no_end_of g L K about Q x consequent l false c2 v1 ty f1 ref a ar true to) (by_part.no_end_of g L K about Q x otherwise w false c3 v2 ty f2 ref a ar true to))))
+        if_else_known g L K about Q x condition consequent otherwise id at ty by good h (taken_child x condition h.0 (base.rise_first g (nodes_of condition) (nodes_of consequent) rr)) (taken_child x consequent h.1.1.0 (base.rise_second g (nodes_of condition) (nodes_of consequent) rr)) (taken_child x otherwise h.1.1.1.0 (base.rise_second g (nodes_of condition ++ nodes_of consequent) (nodes_of otherwise) r))
     known (tree.IfLet pattern scrutinee consequent absent) x id at ty by p good h r =
         let y = with_entries (entries_of pattern) x in
         let n1 = nodes_of pattern ++ nodes_of scrutinee in
-        let k1 = cells g.items true pattern ++ reached_cells g.items scrutinee in
         let r1 = base.rise_first g (n1 ++ nodes_of consequent) ([]) r in
         let r2 = base.rise_first g n1 (nodes_of consequent) r1 in
-        let k = child x scrutinee (Used Use.Borrow) refl (standing.used_stands g L K about Q x Use.Borrow scrutinee h.0).0 h.0 (base.rise_second g (nodes_of pattern) (nodes_of scrutinee) r2) in
-        let nr = (standing.used_stands g L K about Q x Use.Borrow scrutinee h.0).1 in
-        let l = taken_child y consequent h.1.1.0 (base.rise_second g n1 (nodes_of consequent) r1) in
-        let v1 = (standing.taken_stands g L K about Q y consequent h.1.1.0).valued in
-        nodes.flow g L K about Q x id at ty by (tree.IfLet pattern scrutinee consequent absent) (S_of (tree.IfLet pattern scrutinee consequent absent) (head id ty by)) _ good (λ c. c) (λ a. refl)
-        (λ o c a ar own to d nv.
-        let all = (base.cells_second g _ (cells_in g.items (tree.IfLet pattern scrutinee consequent absent)) c) in
-        let cs = base.cells_first g (k1 ++ cells g.items false consequent) [] all in
-        let cp = base.cells_first g (cells g.items true pattern) (reached_cells g.items scrutinee) (base.cells_first g k1 (cells g.items false consequent) cs) in
-        let cr = base.cells_second g (cells g.items true pattern) (reached_cells g.items scrutinee) (base.cells_first g k1 (cells g.items false consequent) cs) in
-        let cb = base.cells_second g k1 (cells g.items false consequent) cs in
-        let clear = d (standing.unit_no g L K about Q ty h.1.1.1.1) (standing.unit_made g L K about Q ty h.1.1.1.1) in
-        by_rule.owned g L K about Q x.loops (head id ty by) own _ _ (more x.loops _ _ _ (standing.last_two_under g L K about Q (cells g.items true pattern) (reached_cells g.items scrutinee) (cells g.items false consequent) [])
-        (nodes.if_taken g L K about Q x (head id ty by) a (N pattern) scrutinee (N scrutinee) k nr cr ar (standing.shaped g L K about Q about.truth pattern (typing.matched_in false (X x) scrutinee) (ty_of scrutinee) nr h.1.0.1 cp) _ _ (occ (cells g.items false consequent)) 0
-        (nodes.alone g L K about Q y consequent (N consequent) l false cb v1 a (by_rule.around_more g L K about Q x a (entries_of pattern) (pattern_rules.pattern_is g L K about Q about.truth pattern (typing.matched_in false (X x) scrutinee) (ty_of scrutinee) nr h.1.0.1 cp).entries ar) to (λ n m. clear))
-        (by_rule.unit_put g L K about Q Free x.loops (head id ty by) to clear))))
-        (λ o c ref a ar own to. absurd (by_rule.not_both g L K about Q ty ref (standing.unit_no g L K about Q ty h.1.1.1.1)))
+        if_let_known g L K about Q x pattern scrutinee consequent id at ty by good h (child x scrutinee (Used Use.Borrow) refl (standing.used_stands g L K about Q x Use.Borrow scrutinee h.0).0 h.0 (base.rise_second g (nodes_of pattern) (nodes_of scrutinee) r2)) (taken_child y consequent h.1.1.0 (base.rise_second g n1 (nodes_of consequent) r1))
     known (tree.IfLet pattern scrutinee consequent (present otherwise)) x id at ty by p good h r =
         let y = with_entries (entries_of pattern) x in
         let n1 = nodes_of pattern ++ nodes_of scrutinee in
-        let k1 = cells g.items true pattern ++ reached_cells g.items scrutinee in
         let r1 = base.rise_first g (n1 ++ nodes_of consequent) (nodes_of otherwise) r in
         let r2 = base.rise_first g n1 (nodes_of consequent) r1 in
-        let k = child x scrutinee (Used Use.Borrow) refl (standing.used_stands g L K about Q x Use.Borrow scrutinee h.0).0 h.0 (base.rise_second g (nodes_of pattern) (nodes_of scrutinee) r2) in
-        let nr = (standing.used_stands g L K about Q x Use.Borrow scrutinee h.0).1 in
-        let l = taken_child y consequent h.1.1.0 (base.rise_second g n1 (nodes_of consequent) r1) in
-        let v1 = (standing.taken_stands g L K about Q y consequent h.1.1.0).valued in
-        let w = taken_child x otherwise h.1.1.1.0 (base.rise_second g (n1 ++ nodes_of consequent) (nodes_of otherwise) r) in
-        let v2 = (standing.taken_stands g L K about Q x otherwise h.1.1.1.0).valued in
-        let f1 = by_part.common_first g L K about Q ty (ty_of consequent) (ty_of otherwise) h.1.1.1.1 in
-        let f2 = by_part.common_second g L K about Q ty (ty_of consequent) (ty_of otherwise) h.1.1.1.1 in
-        nodes.flow g L K about Q x id at ty by (tree.IfLet pattern scrutinee consequent (present otherwise)) (S_of (tree.IfLet pattern scrutinee consequent (present otherwise)) (head id ty by)) _ good (λ c. c) (λ a. refl)
-        (λ o c a ar own to d nv.
-        let all = (base.cells_second g _ (cells_in g.items (tree.IfLet pattern scrutinee consequent (present otherwise))) c) in
-        let cs = base.cells_first g (k1 ++ cells g.items false consequent) (cells g.items false otherwise) all in
-        let cp = base.cells_first g (cells g.items true pattern) (reached_cells g.items scrutinee) (base.cells_first g k1 (cells g.items false consequent) cs) in
-        let cr = base.cells_second g (cells g.items true pattern) (reached_cells g.items scrutinee) (base.cells_first g k1 (cells g.items false consequent) cs) in
-        let cb = base.cells_second g k1 (cells g.items false consequent) cs in
-        let co = base.cells_second g (k1 ++ cells g.items false consequent) (cells g.items false otherwise) all in
-        by_rule.owned g L K about Q x.loops (head id ty by) own _ _ (more x.loops _ _ _ (standing.last_two_under g L K about Q (cells g.items true pattern) (reached_cells g.items scrutinee) (cells g.items false consequent) (cells g.items false otherwise))
-        (nodes.if_taken g L K about Q x (head id ty by) a (N pattern) scrutinee (N scrutinee) k nr cr ar (standing.shaped g L K about Q about.truth pattern (typing.matched_in false (X x) scrutinee) (ty_of scrutinee) nr h.1.0.1 cp) _ _ (occ (cells g.items false consequent)) (occ (cells g.items false otherwise))
-        (nodes.alone g L K about Q y consequent (N consequent) l false cb v1 a (by_rule.around_more g L K about Q x a (entries_of pattern) (pattern_rules.pattern_is g L K about Q about.truth pattern (typing.matched_in false (X x) scrutinee) (ty_of scrutinee) nr h.1.0.1 cp).entries ar) to (by_rule.dest_fits g L K about Q to ty (ty_of consequent) (base.fits g ty (ty_of consequent) f1) d))
-        (nodes.alone g L K about Q x otherwise (N otherwise) w false co v2 a ar to (by_rule.dest_fits g L K about Q to ty (ty_of otherwise) (base.fits g ty (ty_of otherwise) f2) d)))))
-        (λ o c ref a ar own to.
-        let all = (base.cells_second g _ (cells_in g.items (tree.IfLet pattern scrutinee consequent (present otherwise))) c) in
-        let cs = base.cells_first g (k1 ++ cells g.items false consequent) (cells g.items false otherwise) all in
-        let cp = base.cells_first g (cells g.items true pattern) (reached_cells g.items scrutinee) (base.cells_first g k1 (cells g.items false consequent) cs) in
-        let cr = base.cells_second g (cells g.items true pattern) (reached_cells g.items scrutinee) (base.cells_first g k1 (cells g.items false consequent) cs) in
-        let cb = base.cells_second g k1 (cells g.items false consequent) cs in
-        let co = base.cells_second g (k1 ++ cells g.items false consequent) (cells g.items false otherwise) all in
-        rules.no_end_owned g (head id ty by) own _ (forms_of_branches.if_taken_ended g (head id ty by) a (N pattern) (N scrutinee) (lower.alone F a (N consequent) to) (lower.alone F a (N otherwise) to)
-        (by_part.no_end_of g L K about Q y consequent l false cb v1 ty f1 ref a (by_rule.around_more g L K about Q x a (entries_of pattern) (pattern_rules.pattern_is g L K about Q about.truth pattern (typing.matched_in false (X x) scrutinee) (ty_of scrutinee) nr h.1.0.1 cp).entries ar) true to) (by_part.no_end_of g L K about Q x otherwise w false co v2 ty f2 ref a ar true to)))
+        if_let_else_known g L K about Q x pattern scrutinee consequent otherwise id at ty by good h (child x scrutinee (Used Use.Borrow) refl (standing.used_stands g L K about Q x Use.Borrow scrutinee h.0).0 h.0 (base.rise_second g (nodes_of pattern) (nodes_of scrutinee) r2)) (taken_child y consequent h.1.1.0 (base.rise_second g n1 (nodes_of consequent) r1)) (taken_child x otherwise h.1.1.1.0 (base.rise_second g (n1 ++ nodes_of consequent) (nodes_of otherwise) r))
     known (tree.Match scrutinee arms) x id at ty by p good h r =
         let k = child x scrutinee (Used Use.Borrow) refl (standing.used_stands g L K about Q x Use.Borrow scrutinee h.0).0 h.0 (base.rise_first g (nodes_of scrutinee) (nodes_among arms) r) in
         let nr = (standing.used_stands g L K about Q x Use.Borrow scrutinee h.0).1 in
@@ -479,50 +299,17 @@ module _ (g : Ground) (L K : ℕ) (about : About g L K) (Q : Type 0) where
         (arms_ended x (typing.matched_in false (X x) scrutinee) (ty_of scrutinee) ty arms nr h.1.0 ra ca fit ref (lower.place_in (N scrutinee) a) a ar to)))
     known (tree.Loop inner) x id at ty by p good h r =
         let l : LoopAround = record { loop = id; ty = ty; has_value = true } in
-        let k = taken_child (within l x) inner h.0 r in
-        nodes.flow g L K about Q x id at ty by (tree.Loop inner) (S_of (tree.Loop inner) (head id ty by)) _ good (λ c. c) (λ a. refl)
-        (λ o c a ar own to d nv. by_rule.owned g L K about Q x.loops (head id ty by) own _ _ (once.loops_back g L K about Q l x.loops _ (occ (cells g.items true inner)) (nodes.alone g L K about Q (within l x) inner (N inner) k true (base.cells_second g _ (cells_in g.items (tree.Loop inner)) c) (standing.taken_stands g L K about Q (within l x) inner h.0).valued (in_loop id to a) (by_rule.around_loop g L K about Q x a l to d ar) (Into (N inner).head.id) (by_rule.dest_own g L K about Q (within l x) inner (N inner) k (base.cells_second g _ (cells_in g.items (tree.Loop inner)) c)))))
-        (λ o c ref a ar own to. rules.no_end_owned g (head id ty by) own _ ((nodes.alone g L K about Q (within l x) inner (N inner) k true (base.cells_second g _ (cells_in g.items (tree.Loop inner)) c) (standing.taken_stands g L K about Q (within l x) inner h.0).valued (in_loop id to a) (by_rule.around_loop g L K about Q x a l to (λ n m. absurd (by_rule.not_both g L K about Q ty ref n)) ar) (Into (N inner).head.id) (by_rule.dest_own g L K about Q (within l x) inner (N inner) k (base.cells_second g _ (cells_in g.items (tree.Loop inner)) c))).stays id l (ap (λ (b : Bool). cond b (Some l) (loop_with id x.loops)) (names.equal_too id id refl)) ref))
+        loop_known g L K about Q x inner id at ty by good h (taken_child (within l x) inner h.0 r)
     known (tree.While condition inner) x id at ty by p good h r =
         let l : LoopAround = record { loop = id; ty = ty; has_value = false } in
-        let k = taken_child (within l x) condition h.0 (base.rise_first g (nodes_of condition) (nodes_of inner) r) in
-        let w = taken_child (within l x) inner h.1.1.0 (base.rise_second g (nodes_of condition) (nodes_of inner) r) in
-        nodes.flow g L K about Q x id at ty by (tree.While condition inner) (S_of (tree.While condition inner) (head id ty by)) _ good (λ c. c) (λ a. refl)
-        (λ o c a ar own to d nv.
-        let cs = (base.cells_second g _ (cells_in g.items (tree.While condition inner)) c) in
-        let cc = base.cells_first g (cells g.items true condition) (cells g.items true inner) cs in
-        let ci = base.cells_second g (cells g.items true condition) (cells g.items true inner) cs in
-        let b = by_rule.around_loop g L K about Q x a l to d ar in
-        let clear = d (standing.unit_no g L K about Q ty h.1.1.1.1) (standing.unit_made g L K about Q ty h.1.1.1.1) in
-        by_rule.owned g L K about Q x.loops (head id ty by) own _ _ (once.loops_back g L K about Q l x.loops _ _ (more (l ∷ x.loops) _ _ _ (standing.and_under g L K about Q (cells g.items true condition) (cells g.items true inner))
-        (nodes.conditioned g L K about Q (within l x) condition (N condition) k cc (standing.taken_stands g L K about Q (within l x) condition h.0).valued (in_loop id to a) b _ _ (occ (cells g.items true inner)) 0
-        (nodes.alone g L K about Q (within l x) inner (N inner) w true ci (standing.taken_stands g L K about Q (within l x) inner h.1.1.0).valued (in_loop id to a) b (Into (N inner).head.id) (by_rule.dest_own g L K about Q (within l x) inner (N inner) w ci))
-        (by_part.loop_ends g L K about Q x l id ty by to (standing.unit_no g L K about Q ty h.1.1.1.1) clear (names.equal_too id id refl))))))
-        (λ o c ref a ar own to. absurd (by_rule.not_both g L K about Q ty ref (standing.unit_no g L K about Q ty h.1.1.1.1)))
+        while_known g L K about Q x condition inner id at ty by good h (taken_child (within l x) condition h.0 (base.rise_first g (nodes_of condition) (nodes_of inner) r)) (taken_child (within l x) inner h.1.1.0 (base.rise_second g (nodes_of condition) (nodes_of inner) r))
     known (tree.WhileLet pattern scrutinee inner) x id at ty by p good h r =
         let l : LoopAround = record { loop = id; ty = ty; has_value = false } in
         let z = within l x in
         let y = with_entries (entries_of pattern) z in
         let n1 = nodes_of pattern ++ nodes_of scrutinee in
-        let k1 = cells g.items true pattern ++ reached_cells g.items scrutinee in
         let r1 = base.rise_first g n1 (nodes_of inner) r in
-        let k = child z scrutinee (Used Use.Borrow) refl (standing.used_stands g L K about Q z Use.Borrow scrutinee h.0).0 h.0 (base.rise_second g (nodes_of pattern) (nodes_of scrutinee) r1) in
-        let nr = (standing.used_stands g L K about Q z Use.Borrow scrutinee h.0).1 in
-        let w = taken_child y inner h.1.1.0 (base.rise_second g n1 (nodes_of inner) r) in
-        nodes.flow g L K about Q x id at ty by (tree.WhileLet pattern scrutinee inner) (S_of (tree.WhileLet pattern scrutinee inner) (head id ty by)) _ good (λ c. c) (λ a. refl)
-        (λ o c a ar own to d nv.
-        let cs = (base.cells_second g _ (cells_in g.items (tree.WhileLet pattern scrutinee inner)) c) in
-        let cp = base.cells_first g (cells g.items true pattern) (reached_cells g.items scrutinee) (base.cells_first g k1 (cells g.items true inner) cs) in
-        let cr = base.cells_second g (cells g.items true pattern) (reached_cells g.items scrutinee) (base.cells_first g k1 (cells g.items true inner) cs) in
-        let ci = base.cells_second g k1 (cells g.items true inner) cs in
-        let b = by_rule.around_loop g L K about Q x a l to d ar in
-        let inside = by_rule.around_more g L K about Q z (in_loop id to a) (entries_of pattern) (pattern_rules.pattern_is g L K about Q about.truth pattern (typing.matched_in false (X z) scrutinee) (ty_of scrutinee) nr h.1.0.1 cp).entries b in
-        let clear = d (standing.unit_no g L K about Q ty h.1.1.1.1) (standing.unit_made g L K about Q ty h.1.1.1.1) in
-        by_rule.owned g L K about Q x.loops (head id ty by) own _ _ (once.loops_back g L K about Q l x.loops _ _ (more (l ∷ x.loops) _ _ _ (standing.last_under g L K about Q (cells g.items true pattern) (reached_cells g.items scrutinee) (cells g.items true inner))
-        (nodes.if_taken g L K about Q z (head id ty by) (in_loop id to a) (N pattern) scrutinee (N scrutinee) k nr cr b (standing.shaped g L K about Q about.truth pattern (typing.matched_in false (X z) scrutinee) (ty_of scrutinee) nr h.1.0.1 cp) _ _ (occ (cells g.items true inner)) 0
-        (nodes.alone g L K about Q y inner (N inner) w true ci (standing.taken_stands g L K about Q y inner h.1.1.0).valued (in_loop id to a) inside (Into (N inner).head.id) (by_rule.dest_own g L K about Q y inner (N inner) w ci))
-        (by_part.loop_ends g L K about Q x l id ty by to (standing.unit_no g L K about Q ty h.1.1.1.1) clear (names.equal_too id id refl))))))
-        (λ o c ref a ar own to. absurd (by_rule.not_both g L K about Q ty ref (standing.unit_no g L K about Q ty h.1.1.1.1)))
+        while_let_known g L K about Q x pattern scrutinee inner id at ty by good h (child z scrutinee (Used Use.Borrow) refl (standing.used_stands g L K about Q z Use.Borrow scrutinee h.0).0 h.0 (base.rise_second g (nodes_of pattern) (nodes_of scrutinee) r1)) (taken_child y inner h.1.1.0 (base.rise_second g n1 (nodes_of inner) r))
     known (tree.Break loop absent) x id at ty by p good h r =
         let l = found (loop_with loop x.loops) _ h.0 in
         nodes.flow g L K about Q x id at ty by (tree.Break loop absent) (S_of (tree.Break loop absent) (head id ty by)) _ good (λ c. c) (λ a. refl)
@@ -532,17 +319,7 @@ module _ (g : Ground) (L K : ℕ) (about : About g L K) (Q : Type 0) where
         (λ o c ref a ar own to. absurd (by_rule.not_both g L K about Q ty ref (standing.never_no g L K about Q ty h.1)))
     known (tree.Break loop (present value_)) x id at ty by p good h r =
         let l = found (loop_with loop x.loops) _ h.0 in
-        let k = wanted_child x l.0.ty value_ l.2.1 r in
-        let v = (standing.wanted_stands g L K about Q x l.0.ty value_ l.2.1).valued in
-        let fit = standing.wanted_fits g L K about Q x l.0.ty value_ l.2.1 in
-        nodes.flow g L K about Q x id at ty by (tree.Break loop (present value_)) (S_of (tree.Break loop (present value_)) (head id ty by)) _ good (λ c. c) (λ a. refl)
-        (λ o c a ar own to d nv.
-        let cs = (base.cells_second g _ (cells_in g.items (tree.Break loop (present value_))) c) in
-        let target = loop_destination loop a.loops in
-        by_rule.owned g L K about Q x.loops (head id ty by) own _ _ (more x.loops _ (occ (cells g.items false value_) + 0) _ (nodes.no_more g L K about Q _)
-        (and_then x.loops ((N value_).evaluates a false target) _ (occ (cells g.items false value_)) 0 (k.known.evaluates false cs v a ar false target (by_rule.dest_fits g L K about Q target l.0.ty (ty_of value_) (base.fits g l.0.ty (ty_of value_) fit) (ar.loops loop l.0 l.1)))
-        (λ e. once.leaves_by g L K about Q x.loops id (Breaks loop) (by_part.break_stays g L K about Q x.loops loop l.0 l.1 (by_rule.by_ref g L K about Q l.0.ty (λ ref. absurd (untrue (sym (by_part.no_end_of g L K about Q x value_ k false cs v l.0.ty fit ref a ar false target) ∙ e))) (λ n. n)))))))
-        (λ o c ref a ar own to. absurd (by_rule.not_both g L K about Q ty ref (standing.never_no g L K about Q ty h.1)))
+        break_known g L K about Q x loop value_ id at ty by good h (wanted_child x l.0.ty value_ l.2.1 r)
     known (tree.Continue loop) x id at ty by p good h r =
         nodes.flow g L K about Q x id at ty by (tree.Continue loop) (S_of (tree.Continue loop) (head id ty by)) _ good (λ c. c) (λ a. refl)
         (λ o c a ar own to d nv. more x.loops _ (0 + 0) 0 (nodes.no_more g L K about Q 0) (and_then x.loops build.nothing _ 0 0 (once.nothing_done g L K about Q Free x.loops) (λ e. once.leaves_by g L K about Q x.loops id (Continues loop) (λ other l is ref. refl))))
@@ -554,28 +331,8 @@ module _ (g : Ground) (L K : ℕ) (about : About g L K) (Q : Type 0) where
         (λ e. once.leaves_by g L K about Q x.loops id Returns (λ other l is ref. refl)))))
         (λ o c ref a ar own to. absurd (by_rule.not_both g L K about Q ty ref (standing.never_no g L K about Q ty h.1)))
     known (tree.Return (present value_)) x id at ty by p good h r =
-        let k = wanted_child x x.answer value_ h.0 r in
-        let v = (standing.wanted_stands g L K about Q x x.answer value_ h.0).valued in
-        let fit = standing.wanted_fits g L K about Q x x.answer value_ h.0 in
-        nodes.flow g L K about Q x id at ty by (tree.Return (present value_)) (S_of (tree.Return (present value_)) (head id ty by)) _ good (λ c. c) (λ a. refl)
-        (λ o c a ar own to d nv.
-        let cs = (base.cells_second g _ (cells_in g.items (tree.Return (present value_))) c) in
-        by_rule.owned g L K about Q x.loops (head id ty by) own _ _ (more x.loops _ (occ (cells g.items false value_) + 0) _ (nodes.no_more g L K about Q _)
-        (and_then x.loops ((N value_).evaluates a false a.answer) _ (occ (cells g.items false value_)) 0 (k.known.evaluates false cs v a ar false a.answer (by_rule.dest_fits g L K about Q a.answer x.answer (ty_of value_) (base.fits g x.answer (ty_of value_) fit) ar.answer))
-        (λ e. once.leaves_by g L K about Q x.loops id Returns (λ other l is ref. refl)))))
-        (λ o c ref a ar own to. absurd (by_rule.not_both g L K about Q ty ref (standing.never_no g L K about Q ty h.1)))
-    known (tree.Let pattern initialiser) x id at ty by p good h r = absurd (untrue h)
-    known (tree.Evaluate expression) x id at ty by p good h r = absurd (untrue h)
-    known (tree.Arm pattern guard inner) x id at ty by p good h r = absurd (untrue h)
-    known tree.Wildcard x id at ty by p good h r = absurd (untrue h)
-    known (tree.Binding name) x id at ty by p good h r = absurd (untrue h)
-    known (tree.NumberPattern value) x id at ty by p good h r = absurd (untrue h)
-    known (tree.TruthPattern value) x id at ty by p good h r = absurd (untrue h)
-    known (tree.StructPattern fields) x id at ty by p good h r = absurd (untrue h)
-    known (tree.VariantPattern variant is_test fields) x id at ty by p good h r = absurd (untrue h)
-    known (tree.TuplePattern parts) x id at ty by p good h r = absurd (untrue h)
-    known (tree.ArrayPattern elements) x id at ty by p good h r = absurd (untrue h)
-    known (tree.OrPattern alternatives) x id at ty by p good h r = absurd (untrue h)
+        return_known g L K about Q x value_ id at ty by good h (wanted_child x x.answer value_ h.0 r)
+    known other x id at ty by p good h r = absurd (untrue h)
 
     -- ---- arguments and other operands
     inner_of : (form : Form) (x : Context) (id : ℕ) (ty : TyId) → Holds (typing.row (X x) id ty form) → base.Rise g (nodes_in form) → by_part.InnerIs g L K about Q x form
@@ -676,7 +433,7 @@ module _ (g : Ground) (L K : ℕ) (about : About g L K) (Q : Type 0) where
         )
     stmt_is (tree.Let p absent) x id at ty by h r c a ar own to =
         let cp = base.cells_first g (cells g.items true p) [] (base.cells_second g _ (cells_in g.items (tree.Let p absent)) c) in
-        let it = pattern_rules.pattern_is g L K about Q about.truth p typing.whole (ty_of p) (not_true (types.is_reference g.items (ty_of p)) h.1.1.1) h.1.0 cp in
+        let it = pattern_rules.pattern_is g L K about Q about.truth p typing.whole (ty_of p) (not_true g L K about Q (types.is_reference g.items (ty_of p)) h.1.1.1) h.1.0 cp in
         let keys = by_part.matched_keys g L K about Q ((shape g.items p).bindings (whole_local 0)) (entries_of p) (names.named g p typing.whole (ty_of p) h.1.0 (whole_local 0)) it.entries in (
           more x.loops _ 0 _ (nodes.zero_under g L K about Q _) (subst (λ (s : Shape). Once Free x.loops (lower.declared F (s.bindings (whole_local 0))) 0) (sym (standing.shape_same g L K about Q p)) (by_rule.declares g L K about Q x.loops ((shape g.items p).bindings (whole_local 0)) keys)),
           λ e. it.entries,
@@ -689,7 +446,7 @@ module _ (g : Ground) (L K : ℕ) (about : About g L K) (Q : Type 0) where
         let key : base.KeyIs g idp typ = (names.keyed g p typing.whole typ h.1.1.0 (base.cells_first g (cells g.items true p) (cells g.items false v) cs)).0 in
         let valued = (standing.wanted_stands g L K about Q x typ v h.0).valued in
         let fit = standing.wanted_fits g L K about Q x typ v h.0 in
-        let v_no = not_true (types.is_reference g.items (ty_of v)) (and_second (types.fits g.items typ (ty_of v)) _ h.1.1.1.0) in
+        let v_no = not_true g L K about Q (types.is_reference g.items (ty_of v)) (and_second (types.fits g.items typ (ty_of v)) _ h.1.1.1.0) in
         let entry = by_rule.entered g L K about Q (record { key = idp; ty = typ }) (λ d. key) in
         let dest = by_rule.dest_fits g L K about Q (Into idp) typ (ty_of v) (base.fits g typ (ty_of v) fit) (λ n m. by_rule.keyed_away g L K about Q idp typ key n) in (
           more x.loops _ (occ (cells g.items false v)) _ (by_rule.inner_under g L K about Q true (tree.node id at ty by (tree.Let p (present v))) _ (by_rule.occ_rest g L K about Q (cells g.items true p) (cells g.items false v) _ (nodes.same_under g L K about Q _)))
@@ -700,141 +457,12 @@ module _ (g : Ground) (L K : ℕ) (about : About g L K) (Q : Type 0) where
               let ends = and_first ((N v).evaluates a false (Into idp)).has_end true (and_first (((N v).evaluates a false (Into idp)).has_end && true) true e) in
               (λ same. by_part.binding_out g L K about Q idp typ v key v_no fit (λ never. untrue (sym (k.good.ended false cv (subst (base.Never g) (sym k.good.ty_is) never) a false (Into idp)) ∙ ends)) same, tt),
         )
-    stmt_is (tree.Let (tree.node idp atp typ byp tree.Wildcard) (present v)) x id at ty by h r c a ar own to =
-        let p = tree.node idp atp typ byp tree.Wildcard in
+    stmt_is (tree.Let (tree.node idp atp typ byp other) (present v)) x id at ty by h r c a ar own to =
+        let p = tree.node idp atp typ byp other in
         let cs = base.cells_second g _ (cells_in g.items (tree.Let p (present v))) c in
-        let it = by_part.parts_let g L K about Q x p v (head id ty by) (child x v Base refl (standing.base_plain g L K about Q x v h.0) h.0 (base.rise_second g (nodes_of p) (nodes_of v) r.1)) (typing.matched_in true (X x) v) h.1.1.0 (and_first _ _ h.1.1.1.0) (not_true (types.is_reference g.items (ty_of v)) (and_second (types.fits g.items (ty_of p) (ty_of v)) _ h.1.1.1.0)) h.1.1.1.1.0 (base.cells_first g (cells g.items true p) (reached_cells g.items v) cs) (base.cells_second g (cells g.items true p) (reached_cells g.items v) cs) a ar in
+        let it = by_part.parts_let g L K about Q x p v (head id ty by) (child x v Base refl (standing.base_plain g L K about Q x v h.0) h.0 (base.rise_second g (nodes_of p) (nodes_of v) r.1)) (typing.matched_in true (X x) v) h.1.1.0 (and_first _ _ h.1.1.1.0) (not_true g L K about Q (types.is_reference g.items (ty_of v)) (and_second (types.fits g.items (ty_of p) (ty_of v)) _ h.1.1.1.0)) h.1.1.1.1.0 (base.cells_first g (cells g.items true p) (reached_cells g.items v) cs) (base.cells_second g (cells g.items true p) (reached_cells g.items v) cs) a ar in
         (more x.loops _ _ _ (by_rule.inner_under g L K about Q true (tree.node id at ty by (tree.Let p (present v))) _ (by_rule.occ_rest g L K about Q (cells g.items true p) (reached_cells g.items v) _ (nodes.same_under g L K about Q _))) it.0, it.1)
-    stmt_is (tree.Let (tree.node idp atp typ byp (tree.NumberPattern value)) (present v)) x id at ty by h r c a ar own to =
-        let p = tree.node idp atp typ byp (tree.NumberPattern value) in
-        let cs = base.cells_second g _ (cells_in g.items (tree.Let p (present v))) c in
-        let it = by_part.parts_let g L K about Q x p v (head id ty by) (child x v Base refl (standing.base_plain g L K about Q x v h.0) h.0 (base.rise_second g (nodes_of p) (nodes_of v) r.1)) (typing.matched_in true (X x) v) h.1.1.0 (and_first _ _ h.1.1.1.0) (not_true (types.is_reference g.items (ty_of v)) (and_second (types.fits g.items (ty_of p) (ty_of v)) _ h.1.1.1.0)) h.1.1.1.1.0 (base.cells_first g (cells g.items true p) (reached_cells g.items v) cs) (base.cells_second g (cells g.items true p) (reached_cells g.items v) cs) a ar in
-        (more x.loops _ _ _ (by_rule.inner_under g L K about Q true (tree.node id at ty by (tree.Let p (present v))) _ (by_rule.occ_rest g L K about Q (cells g.items true p) (reached_cells g.items v) _ (nodes.same_under g L K about Q _))) it.0, it.1)
-    stmt_is (tree.Let (tree.node idp atp typ byp (tree.TruthPattern value)) (present v)) x id at ty by h r c a ar own to =
-        let p = tree.node idp atp typ byp (tree.TruthPattern value) in
-        let cs = base.cells_second g _ (cells_in g.items (tree.Let p (present v))) c in
-        let it = by_part.parts_let g L K about Q x p v (head id ty by) (child x v Base refl (standing.base_plain g L K about Q x v h.0) h.0 (base.rise_second g (nodes_of p) (nodes_of v) r.1)) (typing.matched_in true (X x) v) h.1.1.0 (and_first _ _ h.1.1.1.0) (not_true (types.is_reference g.items (ty_of v)) (and_second (types.fits g.items (ty_of p) (ty_of v)) _ h.1.1.1.0)) h.1.1.1.1.0 (base.cells_first g (cells g.items true p) (reached_cells g.items v) cs) (base.cells_second g (cells g.items true p) (reached_cells g.items v) cs) a ar in
-        (more x.loops _ _ _ (by_rule.inner_under g L K about Q true (tree.node id at ty by (tree.Let p (present v))) _ (by_rule.occ_rest g L K about Q (cells g.items true p) (reached_cells g.items v) _ (nodes.same_under g L K about Q _))) it.0, it.1)
-    stmt_is (tree.Let (tree.node idp atp typ byp (tree.StructPattern fields)) (present v)) x id at ty by h r c a ar own to =
-        let p = tree.node idp atp typ byp (tree.StructPattern fields) in
-        let cs = base.cells_second g _ (cells_in g.items (tree.Let p (present v))) c in
-        let it = by_part.parts_let g L K about Q x p v (head id ty by) (child x v Base refl (standing.base_plain g L K about Q x v h.0) h.0 (base.rise_second g (nodes_of p) (nodes_of v) r.1)) (typing.matched_in true (X x) v) h.1.1.0 (and_first _ _ h.1.1.1.0) (not_true (types.is_reference g.items (ty_of v)) (and_second (types.fits g.items (ty_of p) (ty_of v)) _ h.1.1.1.0)) h.1.1.1.1.0 (base.cells_first g (cells g.items true p) (reached_cells g.items v) cs) (base.cells_second g (cells g.items true p) (reached_cells g.items v) cs) a ar in
-        (more x.loops _ _ _ (by_rule.inner_under g L K about Q true (tree.node id at ty by (tree.Let p (present v))) _ (by_rule.occ_rest g L K about Q (cells g.items true p) (reached_cells g.items v) _ (nodes.same_under g L K about Q _))) it.0, it.1)
-    stmt_is (tree.Let (tree.node idp atp typ byp (tree.VariantPattern variant is_test fields)) (present v)) x id at ty by h r c a ar own to =
-        let p = tree.node idp atp typ byp (tree.VariantPattern variant is_test fields) in
-        let cs = base.cells_second g _ (cells_in g.items (tree.Let p (present v))) c in
-        let it = by_part.parts_let g L K about Q x p v (head id ty by) (child x v Base refl (standing.base_plain g L K about Q x v h.0) h.0 (base.rise_second g (nodes_of p) (nodes_of v) r.1)) (typing.matched_in true (X x) v) h.1.1.0 (and_first _ _ h.1.1.1.0) (not_true (types.is_reference g.items (ty_of v)) (and_second (types.fits g.items (ty_of p) (ty_of v)) _ h.1.1.1.0)) h.1.1.1.1.0 (base.cells_first g (cells g.items true p) (reached_cells g.items v) cs) (base.cells_second g (cells g.items true p) (reached_cells g.items v) cs) a ar in
-        (more x.loops _ _ _ (by_rule.inner_under g L K about Q true (tree.node id at ty by (tree.Let p (present v))) _ (by_rule.occ_rest g L K about Q (cells g.items true p) (reached_cells g.items v) _ (nodes.same_under g L K about Q _))) it.0, it.1)
-    stmt_is (tree.Let (tree.node idp atp typ byp (tree.TuplePattern parts)) (present v)) x id at ty by h r c a ar own to =
-        let p = tree.node idp atp typ byp (tree.TuplePattern parts) in
-        let cs = base.cells_second g _ (cells_in g.items (tree.Let p (present v))) c in
-        let it = by_part.parts_let g L K about Q x p v (head id ty by) (child x v Base refl (standing.base_plain g L K about Q x v h.0) h.0 (base.rise_second g (nodes_of p) (nodes_of v) r.1)) (typing.matched_in true (X x) v) h.1.1.0 (and_first _ _ h.1.1.1.0) (not_true (types.is_reference g.items (ty_of v)) (and_second (types.fits g.items (ty_of p) (ty_of v)) _ h.1.1.1.0)) h.1.1.1.1.0 (base.cells_first g (cells g.items true p) (reached_cells g.items v) cs) (base.cells_second g (cells g.items true p) (reached_cells g.items v) cs) a ar in
-        (more x.loops _ _ _ (by_rule.inner_under g L K about Q true (tree.node id at ty by (tree.Let p (present v))) _ (by_rule.occ_rest g L K about Q (cells g.items true p) (reached_cells g.items v) _ (nodes.same_under g L K about Q _))) it.0, it.1)
-    stmt_is (tree.Let (tree.node idp atp typ byp (tree.ArrayPattern elements)) (present v)) x id at ty by h r c a ar own to =
-        let p = tree.node idp atp typ byp (tree.ArrayPattern elements) in
-        let cs = base.cells_second g _ (cells_in g.items (tree.Let p (present v))) c in
-        let it = by_part.parts_let g L K about Q x p v (head id ty by) (child x v Base refl (standing.base_plain g L K about Q x v h.0) h.0 (base.rise_second g (nodes_of p) (nodes_of v) r.1)) (typing.matched_in true (X x) v) h.1.1.0 (and_first _ _ h.1.1.1.0) (not_true (types.is_reference g.items (ty_of v)) (and_second (types.fits g.items (ty_of p) (ty_of v)) _ h.1.1.1.0)) h.1.1.1.1.0 (base.cells_first g (cells g.items true p) (reached_cells g.items v) cs) (base.cells_second g (cells g.items true p) (reached_cells g.items v) cs) a ar in
-        (more x.loops _ _ _ (by_rule.inner_under g L K about Q true (tree.node id at ty by (tree.Let p (present v))) _ (by_rule.occ_rest g L K about Q (cells g.items true p) (reached_cells g.items v) _ (nodes.same_under g L K about Q _))) it.0, it.1)
-    stmt_is (tree.Let (tree.node idp atp typ byp (tree.OrPattern alternatives)) (present v)) x id at ty by h r c a ar own to =
-        let p = tree.node idp atp typ byp (tree.OrPattern alternatives) in
-        let cs = base.cells_second g _ (cells_in g.items (tree.Let p (present v))) c in
-        let it = by_part.parts_let g L K about Q x p v (head id ty by) (child x v Base refl (standing.base_plain g L K about Q x v h.0) h.0 (base.rise_second g (nodes_of p) (nodes_of v) r.1)) (typing.matched_in true (X x) v) h.1.1.0 (and_first _ _ h.1.1.1.0) (not_true (types.is_reference g.items (ty_of v)) (and_second (types.fits g.items (ty_of p) (ty_of v)) _ h.1.1.1.0)) h.1.1.1.1.0 (base.cells_first g (cells g.items true p) (reached_cells g.items v) cs) (base.cells_second g (cells g.items true p) (reached_cells g.items v) cs) a ar in
-        (more x.loops _ _ _ (by_rule.inner_under g L K about Q true (tree.node id at ty by (tree.Let p (present v))) _ (by_rule.occ_rest g L K about Q (cells g.items true p) (reached_cells g.items v) _ (nodes.same_under g L K about Q _))) it.0, it.1)
-    stmt_is (tree.Let (tree.node idp atp typ byp (tree.Number value)) (present v)) x id at ty by h r c a ar own to = absurd (untrue h.1.1.0.1)
-    stmt_is (tree.Let (tree.node idp atp typ byp (tree.Truth value)) (present v)) x id at ty by h r c a ar own to = absurd (untrue h.1.1.0.1)
-    stmt_is (tree.Let (tree.node idp atp typ byp tree.UnitValue) (present v)) x id at ty by h r c a ar own to = absurd (untrue h.1.1.0.1)
-    stmt_is (tree.Let (tree.node idp atp typ byp (tree.Variable key)) (present v)) x id at ty by h r c a ar own to = absurd (untrue h.1.1.0.1)
-    stmt_is (tree.Let (tree.node idp atp typ byp (tree.Captured closure part name)) (present v)) x id at ty by h r c a ar own to = absurd (untrue h.1.1.0.1)
-    stmt_is (tree.Let (tree.node idp atp typ byp (tree.Field base part)) (present v)) x id at ty by h r c a ar own to = absurd (untrue h.1.1.0.1)
-    stmt_is (tree.Let (tree.node idp atp typ byp (tree.Index base index count)) (present v)) x id at ty by h r c a ar own to = absurd (untrue h.1.1.0.1)
-    stmt_is (tree.Let (tree.node idp atp typ byp (tree.Deref base)) (present v)) x id at ty by h r c a ar own to = absurd (untrue h.1.1.0.1)
-    stmt_is (tree.Let (tree.node idp atp typ byp (tree.Not operand)) (present v)) x id at ty by h r c a ar own to = absurd (untrue h.1.1.0.1)
-    stmt_is (tree.Let (tree.node idp atp typ byp (tree.Negate operand)) (present v)) x id at ty by h r c a ar own to = absurd (untrue h.1.1.0.1)
-    stmt_is (tree.Let (tree.node idp atp typ byp (tree.Arithmetic operator left right)) (present v)) x id at ty by h r c a ar own to = absurd (untrue h.1.1.0.1)
-    stmt_is (tree.Let (tree.node idp atp typ byp (tree.Comparison operator left right)) (present v)) x id at ty by h r c a ar own to = absurd (untrue h.1.1.0.1)
-    stmt_is (tree.Let (tree.node idp atp typ byp (tree.And left right)) (present v)) x id at ty by h r c a ar own to = absurd (untrue h.1.1.0.1)
-    stmt_is (tree.Let (tree.node idp atp typ byp (tree.Or left right)) (present v)) x id at ty by h r c a ar own to = absurd (untrue h.1.1.0.1)
-    stmt_is (tree.Let (tree.node idp atp typ byp (tree.Assign target value)) (present v)) x id at ty by h r c a ar own to = absurd (untrue h.1.1.0.1)
-    stmt_is (tree.Let (tree.node idp atp typ byp (tree.Call callee args)) (present v)) x id at ty by h r c a ar own to = absurd (untrue h.1.1.0.1)
-    stmt_is (tree.Let (tree.node idp atp typ byp (tree.MethodCall callee receiver args)) (present v)) x id at ty by h r c a ar own to = absurd (untrue h.1.1.0.1)
-    stmt_is (tree.Let (tree.node idp atp typ byp (tree.VirtualCall trait_no method receiver args)) (present v)) x id at ty by h r c a ar own to = absurd (untrue h.1.1.0.1)
-    stmt_is (tree.Let (tree.node idp atp typ byp (tree.ClosureCall callee closure args)) (present v)) x id at ty by h r c a ar own to = absurd (untrue h.1.1.0.1)
-    stmt_is (tree.Let (tree.node idp atp typ byp (tree.Make adt variant fields)) (present v)) x id at ty by h r c a ar own to = absurd (untrue h.1.1.0.1)
-    stmt_is (tree.Let (tree.node idp atp typ byp (tree.Tuple parts)) (present v)) x id at ty by h r c a ar own to = absurd (untrue h.1.1.0.1)
-    stmt_is (tree.Let (tree.node idp atp typ byp (tree.Array elements)) (present v)) x id at ty by h r c a ar own to = absurd (untrue h.1.1.0.1)
-    stmt_is (tree.Let (tree.node idp atp typ byp (tree.Closure closure captures)) (present v)) x id at ty by h r c a ar own to = absurd (untrue h.1.1.0.1)
-    stmt_is (tree.Let (tree.node idp atp typ byp (tree.NewBox content)) (present v)) x id at ty by h r c a ar own to = absurd (untrue h.1.1.0.1)
-    stmt_is (tree.Let (tree.node idp atp typ byp (tree.Print operand)) (present v)) x id at ty by h r c a ar own to = absurd (untrue h.1.1.0.1)
-    stmt_is (tree.Let (tree.node idp atp typ byp tree.Ask) (present v)) x id at ty by h r c a ar own to = absurd (untrue h.1.1.0.1)
-    stmt_is (tree.Let (tree.node idp atp typ byp (tree.DropValue operand)) (present v)) x id at ty by h r c a ar own to = absurd (untrue h.1.1.0.1)
-    stmt_is (tree.Let (tree.node idp atp typ byp (tree.Forget operand)) (present v)) x id at ty by h r c a ar own to = absurd (untrue h.1.1.0.1)
-    stmt_is (tree.Let (tree.node idp atp typ byp tree.Panic) (present v)) x id at ty by h r c a ar own to = absurd (untrue h.1.1.0.1)
-    stmt_is (tree.Let (tree.node idp atp typ byp (tree.Borrow unique base)) (present v)) x id at ty by h r c a ar own to = absurd (untrue h.1.1.0.1)
-    stmt_is (tree.Let (tree.node idp atp typ byp (tree.Unsize trait_no operand)) (present v)) x id at ty by h r c a ar own to = absurd (untrue h.1.1.0.1)
-    stmt_is (tree.Let (tree.node idp atp typ byp (tree.Block stmts tail)) (present v)) x id at ty by h r c a ar own to = absurd (untrue h.1.1.0.1)
-    stmt_is (tree.Let (tree.node idp atp typ byp (tree.Let q initialiser)) (present v)) x id at ty by h r c a ar own to = absurd (untrue h.1.1.0.1)
-    stmt_is (tree.Let (tree.node idp atp typ byp (tree.Evaluate expression)) (present v)) x id at ty by h r c a ar own to = absurd (untrue h.1.1.0.1)
-    stmt_is (tree.Let (tree.node idp atp typ byp (tree.If condition consequent otherwise)) (present v)) x id at ty by h r c a ar own to = absurd (untrue h.1.1.0.1)
-    stmt_is (tree.Let (tree.node idp atp typ byp (tree.IfLet q scrutinee consequent otherwise)) (present v)) x id at ty by h r c a ar own to = absurd (untrue h.1.1.0.1)
-    stmt_is (tree.Let (tree.node idp atp typ byp (tree.Match scrutinee arms)) (present v)) x id at ty by h r c a ar own to = absurd (untrue h.1.1.0.1)
-    stmt_is (tree.Let (tree.node idp atp typ byp (tree.Arm q guard inner)) (present v)) x id at ty by h r c a ar own to = absurd (untrue h.1.1.0.1)
-    stmt_is (tree.Let (tree.node idp atp typ byp (tree.Loop inner)) (present v)) x id at ty by h r c a ar own to = absurd (untrue h.1.1.0.1)
-    stmt_is (tree.Let (tree.node idp atp typ byp (tree.While condition inner)) (present v)) x id at ty by h r c a ar own to = absurd (untrue h.1.1.0.1)
-    stmt_is (tree.Let (tree.node idp atp typ byp (tree.WhileLet q scrutinee inner)) (present v)) x id at ty by h r c a ar own to = absurd (untrue h.1.1.0.1)
-    stmt_is (tree.Let (tree.node idp atp typ byp (tree.Break loop value)) (present v)) x id at ty by h r c a ar own to = absurd (untrue h.1.1.0.1)
-    stmt_is (tree.Let (tree.node idp atp typ byp (tree.Continue loop)) (present v)) x id at ty by h r c a ar own to = absurd (untrue h.1.1.0.1)
-    stmt_is (tree.Let (tree.node idp atp typ byp (tree.Return value)) (present v)) x id at ty by h r c a ar own to = absurd (untrue h.1.1.0.1)
-    stmt_is (tree.Number value) x id at ty by h r c a ar own to = absurd (untrue h)
-    stmt_is (tree.Truth value) x id at ty by h r c a ar own to = absurd (untrue h)
-    stmt_is tree.UnitValue x id at ty by h r c a ar own to = absurd (untrue h)
-    stmt_is (tree.Variable key) x id at ty by h r c a ar own to = absurd (untrue h)
-    stmt_is (tree.Captured closure part name) x id at ty by h r c a ar own to = absurd (untrue h)
-    stmt_is (tree.Field base part) x id at ty by h r c a ar own to = absurd (untrue h)
-    stmt_is (tree.Index base index count) x id at ty by h r c a ar own to = absurd (untrue h)
-    stmt_is (tree.Deref base) x id at ty by h r c a ar own to = absurd (untrue h)
-    stmt_is (tree.Not operand) x id at ty by h r c a ar own to = absurd (untrue h)
-    stmt_is (tree.Negate operand) x id at ty by h r c a ar own to = absurd (untrue h)
-    stmt_is (tree.Arithmetic operator left right) x id at ty by h r c a ar own to = absurd (untrue h)
-    stmt_is (tree.Comparison operator left right) x id at ty by h r c a ar own to = absurd (untrue h)
-    stmt_is (tree.And left right) x id at ty by h r c a ar own to = absurd (untrue h)
-    stmt_is (tree.Or left right) x id at ty by h r c a ar own to = absurd (untrue h)
-    stmt_is (tree.Assign target value) x id at ty by h r c a ar own to = absurd (untrue h)
-    stmt_is (tree.Call callee args) x id at ty by h r c a ar own to = absurd (untrue h)
-    stmt_is (tree.MethodCall callee receiver args) x id at ty by h r c a ar own to = absurd (untrue h)
-    stmt_is (tree.VirtualCall trait_no method receiver args) x id at ty by h r c a ar own to = absurd (untrue h)
-    stmt_is (tree.ClosureCall callee closure args) x id at ty by h r c a ar own to = absurd (untrue h)
-    stmt_is (tree.Make adt variant fields) x id at ty by h r c a ar own to = absurd (untrue h)
-    stmt_is (tree.Tuple parts) x id at ty by h r c a ar own to = absurd (untrue h)
-    stmt_is (tree.Array elements) x id at ty by h r c a ar own to = absurd (untrue h)
-    stmt_is (tree.Closure closure captures) x id at ty by h r c a ar own to = absurd (untrue h)
-    stmt_is (tree.NewBox content) x id at ty by h r c a ar own to = absurd (untrue h)
-    stmt_is (tree.Print operand) x id at ty by h r c a ar own to = absurd (untrue h)
-    stmt_is tree.Ask x id at ty by h r c a ar own to = absurd (untrue h)
-    stmt_is (tree.DropValue operand) x id at ty by h r c a ar own to = absurd (untrue h)
-    stmt_is (tree.Forget operand) x id at ty by h r c a ar own to = absurd (untrue h)
-    stmt_is tree.Panic x id at ty by h r c a ar own to = absurd (untrue h)
-    stmt_is (tree.Borrow unique base) x id at ty by h r c a ar own to = absurd (untrue h)
-    stmt_is (tree.Unsize trait_no operand) x id at ty by h r c a ar own to = absurd (untrue h)
-    stmt_is (tree.Block stmts tail) x id at ty by h r c a ar own to = absurd (untrue h)
-    stmt_is (tree.If condition consequent otherwise) x id at ty by h r c a ar own to = absurd (untrue h)
-    stmt_is (tree.IfLet pattern scrutinee consequent otherwise) x id at ty by h r c a ar own to = absurd (untrue h)
-    stmt_is (tree.Match scrutinee arms) x id at ty by h r c a ar own to = absurd (untrue h)
-    stmt_is (tree.Arm pattern guard inner) x id at ty by h r c a ar own to = absurd (untrue h)
-    stmt_is (tree.Loop inner) x id at ty by h r c a ar own to = absurd (untrue h)
-    stmt_is (tree.While condition inner) x id at ty by h r c a ar own to = absurd (untrue h)
-    stmt_is (tree.WhileLet pattern scrutinee inner) x id at ty by h r c a ar own to = absurd (untrue h)
-    stmt_is (tree.Break loop value) x id at ty by h r c a ar own to = absurd (untrue h)
-    stmt_is (tree.Continue loop) x id at ty by h r c a ar own to = absurd (untrue h)
-    stmt_is (tree.Return value) x id at ty by h r c a ar own to = absurd (untrue h)
-    stmt_is tree.Wildcard x id at ty by h r c a ar own to = absurd (untrue h)
-    stmt_is (tree.Binding name) x id at ty by h r c a ar own to = absurd (untrue h)
-    stmt_is (tree.NumberPattern value) x id at ty by h r c a ar own to = absurd (untrue h)
-    stmt_is (tree.TruthPattern value) x id at ty by h r c a ar own to = absurd (untrue h)
-    stmt_is (tree.StructPattern fields) x id at ty by h r c a ar own to = absurd (untrue h)
-    stmt_is (tree.VariantPattern variant is_test fields) x id at ty by h r c a ar own to = absurd (untrue h)
-    stmt_is (tree.TuplePattern parts) x id at ty by h r c a ar own to = absurd (untrue h)
-    stmt_is (tree.ArrayPattern elements) x id at ty by h r c a ar own to = absurd (untrue h)
-    stmt_is (tree.OrPattern alternatives) x id at ty by h r c a ar own to = absurd (untrue h)
+    stmt_is other x id at ty by h r c a ar own to = absurd (untrue h)
 
     -- ---- arms
     arms_are : (x : Context) (m : Matched) (scr want : TyId) (ns : Nodes) → NotRef scr → Holds (typing.arms_of (X x) m scr ns) → base.Rise g (nodes_among ns) → Cells (all_cells g.items ns) → list_all (types.fits g.items want) (typing.types_in ns) ≡ true → (node : ℕ) (matched : Place) → by_rule.FreePlace g L K about Q matched → (a : LoopsAndGuards) → Around x a → (to : Destination) → Dest to want →
@@ -873,58 +501,7 @@ module _ (g : Ground) (L K : ℕ) (about : About g L K) (Q : Type 0) where
         (nodes.armed g L K about Q x.loops (head id ty by) (N p) (lower.lower_if_any F guard) (N inner) matched a to (occ (cells_if_any g.items true guard)) (occ (cells g.items false inner)) s.0 s.1
         (guard_is z guard h.1.1.1.0 (base.rise_second g (nodes_of p) (nodes_if_any guard) r1) cg (in_guard ((N p).shape.bindings matched) a) (by_rule.around_guard g L K about Q x a (entries_of p) ((N p).shape.bindings matched) it.entries s.1 ar))
         (nodes.alone g L K about Q y inner (N inner) k false ci (standing.taken_stands g L K about Q y inner h.1.1.1.1.0).valued a (by_rule.around_more g L K about Q x a (entries_of p) it.entries ar) to (by_rule.dest_fits g L K about Q to ty (ty_of inner) (inl (sym (same_id ty (ty_of inner) h.1.1.1.1.1))) d)))
-    arm_is (tree.Number value) x m scr id at ty by nr h r c matched f a ar to d = absurd (untrue h)
-    arm_is (tree.Truth value) x m scr id at ty by nr h r c matched f a ar to d = absurd (untrue h)
-    arm_is tree.UnitValue x m scr id at ty by nr h r c matched f a ar to d = absurd (untrue h)
-    arm_is (tree.Variable key) x m scr id at ty by nr h r c matched f a ar to d = absurd (untrue h)
-    arm_is (tree.Captured closure part name) x m scr id at ty by nr h r c matched f a ar to d = absurd (untrue h)
-    arm_is (tree.Field base part) x m scr id at ty by nr h r c matched f a ar to d = absurd (untrue h)
-    arm_is (tree.Index base index count) x m scr id at ty by nr h r c matched f a ar to d = absurd (untrue h)
-    arm_is (tree.Deref base) x m scr id at ty by nr h r c matched f a ar to d = absurd (untrue h)
-    arm_is (tree.Not operand) x m scr id at ty by nr h r c matched f a ar to d = absurd (untrue h)
-    arm_is (tree.Negate operand) x m scr id at ty by nr h r c matched f a ar to d = absurd (untrue h)
-    arm_is (tree.Arithmetic operator left right) x m scr id at ty by nr h r c matched f a ar to d = absurd (untrue h)
-    arm_is (tree.Comparison operator left right) x m scr id at ty by nr h r c matched f a ar to d = absurd (untrue h)
-    arm_is (tree.And left right) x m scr id at ty by nr h r c matched f a ar to d = absurd (untrue h)
-    arm_is (tree.Or left right) x m scr id at ty by nr h r c matched f a ar to d = absurd (untrue h)
-    arm_is (tree.Assign target value) x m scr id at ty by nr h r c matched f a ar to d = absurd (untrue h)
-    arm_is (tree.Call callee args) x m scr id at ty by nr h r c matched f a ar to d = absurd (untrue h)
-    arm_is (tree.MethodCall callee receiver args) x m scr id at ty by nr h r c matched f a ar to d = absurd (untrue h)
-    arm_is (tree.VirtualCall trait_no method receiver args) x m scr id at ty by nr h r c matched f a ar to d = absurd (untrue h)
-    arm_is (tree.ClosureCall callee closure args) x m scr id at ty by nr h r c matched f a ar to d = absurd (untrue h)
-    arm_is (tree.Make adt variant fields) x m scr id at ty by nr h r c matched f a ar to d = absurd (untrue h)
-    arm_is (tree.Tuple parts) x m scr id at ty by nr h r c matched f a ar to d = absurd (untrue h)
-    arm_is (tree.Array elements) x m scr id at ty by nr h r c matched f a ar to d = absurd (untrue h)
-    arm_is (tree.Closure closure captures) x m scr id at ty by nr h r c matched f a ar to d = absurd (untrue h)
-    arm_is (tree.NewBox content) x m scr id at ty by nr h r c matched f a ar to d = absurd (untrue h)
-    arm_is (tree.Print operand) x m scr id at ty by nr h r c matched f a ar to d = absurd (untrue h)
-    arm_is tree.Ask x m scr id at ty by nr h r c matched f a ar to d = absurd (untrue h)
-    arm_is (tree.DropValue operand) x m scr id at ty by nr h r c matched f a ar to d = absurd (untrue h)
-    arm_is (tree.Forget operand) x m scr id at ty by nr h r c matched f a ar to d = absurd (untrue h)
-    arm_is tree.Panic x m scr id at ty by nr h r c matched f a ar to d = absurd (untrue h)
-    arm_is (tree.Borrow unique base) x m scr id at ty by nr h r c matched f a ar to d = absurd (untrue h)
-    arm_is (tree.Unsize trait_no operand) x m scr id at ty by nr h r c matched f a ar to d = absurd (untrue h)
-    arm_is (tree.Block stmts tail) x m scr id at ty by nr h r c matched f a ar to d = absurd (untrue h)
-    arm_is (tree.Let pattern initialiser) x m scr id at ty by nr h r c matched f a ar to d = absurd (untrue h)
-    arm_is (tree.Evaluate expression) x m scr id at ty by nr h r c matched f a ar to d = absurd (untrue h)
-    arm_is (tree.If condition consequent otherwise) x m scr id at ty by nr h r c matched f a ar to d = absurd (untrue h)
-    arm_is (tree.IfLet pattern scrutinee consequent otherwise) x m scr id at ty by nr h r c matched f a ar to d = absurd (untrue h)
-    arm_is (tree.Match scrutinee arms) x m scr id at ty by nr h r c matched f a ar to d = absurd (untrue h)
-    arm_is (tree.Loop inner) x m scr id at ty by nr h r c matched f a ar to d = absurd (untrue h)
-    arm_is (tree.While condition inner) x m scr id at ty by nr h r c matched f a ar to d = absurd (untrue h)
-    arm_is (tree.WhileLet pattern scrutinee inner) x m scr id at ty by nr h r c matched f a ar to d = absurd (untrue h)
-    arm_is (tree.Break loop value) x m scr id at ty by nr h r c matched f a ar to d = absurd (untrue h)
-    arm_is (tree.Continue loop) x m scr id at ty by nr h r c matched f a ar to d = absurd (untrue h)
-    arm_is (tree.Return value) x m scr id at ty by nr h r c matched f a ar to d = absurd (untrue h)
-    arm_is tree.Wildcard x m scr id at ty by nr h r c matched f a ar to d = absurd (untrue h)
-    arm_is (tree.Binding name) x m scr id at ty by nr h r c matched f a ar to d = absurd (untrue h)
-    arm_is (tree.NumberPattern value) x m scr id at ty by nr h r c matched f a ar to d = absurd (untrue h)
-    arm_is (tree.TruthPattern value) x m scr id at ty by nr h r c matched f a ar to d = absurd (untrue h)
-    arm_is (tree.StructPattern fields) x m scr id at ty by nr h r c matched f a ar to d = absurd (untrue h)
-    arm_is (tree.VariantPattern variant is_test fields) x m scr id at ty by nr h r c matched f a ar to d = absurd (untrue h)
-    arm_is (tree.TuplePattern parts) x m scr id at ty by nr h r c matched f a ar to d = absurd (untrue h)
-    arm_is (tree.ArrayPattern elements) x m scr id at ty by nr h r c matched f a ar to d = absurd (untrue h)
-    arm_is (tree.OrPattern alternatives) x m scr id at ty by nr h r c matched f a ar to d = absurd (untrue h)
+    arm_is other x m scr id at ty by nr h r c matched f a ar to d = absurd (untrue h)
 
     arm_ended : (form : Form) (x : Context) (m : Matched) (scr : TyId) (id : ℕ) (at : Pos) (ty : TyId) (by : Option Use) → NotRef scr → Holds (typing.arm (X x) m scr (tree.node id at ty by form)) → base.Rise g (nodes_in form) → Cells (cells_in g.items form) → (want : TyId) → types.fits g.items want ty ≡ true → IsRef want → (matched : Place) (a : LoopsAndGuards) → Around x a → (to : Destination) →
         ((N (tree.node id at ty by form)).arm matched a to).has_end ≡ false
@@ -937,58 +514,7 @@ module _ (g : Ground) (L K : ℕ) (about : About g L K) (Q : Type 0) where
         let it = pattern_rules.pattern_is g L K about Q about.truth p m scr nr h.1.1.0 cp in
         forms_of_branches.arm_ended g (head id ty by) (N p) (lower.lower_if_any F guard) (N inner) matched a to
         (by_part.no_end_of g L K about Q y inner k false ci (standing.taken_stands g L K about Q y inner h.1.1.1.1.0).valued want (subst (λ (z : TyId). types.fits g.items want z ≡ true) (same_id ty (ty_of inner) h.1.1.1.1.1) fit) ref a (by_rule.around_more g L K about Q x a (entries_of p) it.entries ar) true to)
-    arm_ended (tree.Number value) x m scr id at ty by nr h r c want fit ref matched a ar to = absurd (untrue h)
-    arm_ended (tree.Truth value) x m scr id at ty by nr h r c want fit ref matched a ar to = absurd (untrue h)
-    arm_ended tree.UnitValue x m scr id at ty by nr h r c want fit ref matched a ar to = absurd (untrue h)
-    arm_ended (tree.Variable key) x m scr id at ty by nr h r c want fit ref matched a ar to = absurd (untrue h)
-    arm_ended (tree.Captured closure part name) x m scr id at ty by nr h r c want fit ref matched a ar to = absurd (untrue h)
-    arm_ended (tree.Field base part) x m scr id at ty by nr h r c want fit ref matched a ar to = absurd (untrue h)
-    arm_ended (tree.Index base index count) x m scr id at ty by nr h r c want fit ref matched a ar to = absurd (untrue h)
-    arm_ended (tree.Deref base) x m scr id at ty by nr h r c want fit ref matched a ar to = absurd (untrue h)
-    arm_ended (tree.Not operand) x m scr id at ty by nr h r c want fit ref matched a ar to = absurd (untrue h)
-    arm_ended (tree.Negate operand) x m scr id at ty by nr h r c want fit ref matched a ar to = absurd (untrue h)
-    arm_ended (tree.Arithmetic operator left right) x m scr id at ty by nr h r c want fit ref matched a ar to = absurd (untrue h)
-    arm_ended (tree.Comparison operator left right) x m scr id at ty by nr h r c want fit ref matched a ar to = absurd (untrue h)
-    arm_ended (tree.And left right) x m scr id at ty by nr h r c want fit ref matched a ar to = absurd (untrue h)
-    arm_ended (tree.Or left right) x m scr id at ty by nr h r c want fit ref matched a ar to = absurd (untrue h)
-    arm_ended (tree.Assign target value) x m scr id at ty by nr h r c want fit ref matched a ar to = absurd (untrue h)
-    arm_ended (tree.Call callee args) x m scr id at ty by nr h r c want fit ref matched a ar to = absurd (untrue h)
-    arm_ended (tree.MethodCall callee receiver args) x m scr id at ty by nr h r c want fit ref matched a ar to = absurd (untrue h)
-    arm_ended (tree.VirtualCall trait_no method receiver args) x m scr id at ty by nr h r c want fit ref matched a ar to = absurd (untrue h)
-    arm_ended (tree.ClosureCall callee closure args) x m scr id at ty by nr h r c want fit ref matched a ar to = absurd (untrue h)
-    arm_ended (tree.Make adt variant fields) x m scr id at ty by nr h r c want fit ref matched a ar to = absurd (untrue h)
-    arm_ended (tree.Tuple parts) x m scr id at ty by nr h r c want fit ref matched a ar to = absurd (untrue h)
-    arm_ended (tree.Array elements) x m scr id at ty by nr h r c want fit ref matched a ar to = absurd (untrue h)
-    arm_ended (tree.Closure closure captures) x m scr id at ty by nr h r c want fit ref matched a ar to = absurd (untrue h)
-    arm_ended (tree.NewBox content) x m scr id at ty by nr h r c want fit ref matched a ar to = absurd (untrue h)
-    arm_ended (tree.Print operand) x m scr id at ty by nr h r c want fit ref matched a ar to = absurd (untrue h)
-    arm_ended tree.Ask x m scr id at ty by nr h r c want fit ref matched a ar to = absurd (untrue h)
-    arm_ended (tree.DropValue operand) x m scr id at ty by nr h r c want fit ref matched a ar to = absurd (untrue h)
-    arm_ended (tree.Forget operand) x m scr id at ty by nr h r c want fit ref matched a ar to = absurd (untrue h)
-    arm_ended tree.Panic x m scr id at ty by nr h r c want fit ref matched a ar to = absurd (untrue h)
-    arm_ended (tree.Borrow unique base) x m scr id at ty by nr h r c want fit ref matched a ar to = absurd (untrue h)
-    arm_ended (tree.Unsize trait_no operand) x m scr id at ty by nr h r c want fit ref matched a ar to = absurd (untrue h)
-    arm_ended (tree.Block stmts tail) x m scr id at ty by nr h r c want fit ref matched a ar to = absurd (untrue h)
-    arm_ended (tree.Let pattern initialiser) x m scr id at ty by nr h r c want fit ref matched a ar to = absurd (untrue h)
-    arm_ended (tree.Evaluate expression) x m scr id at ty by nr h r c want fit ref matched a ar to = absurd (untrue h)
-    arm_ended (tree.If condition consequent otherwise) x m scr id at ty by nr h r c want fit ref matched a ar to = absurd (untrue h)
-    arm_ended (tree.IfLet pattern scrutinee consequent otherwise) x m scr id at ty by nr h r c want fit ref matched a ar to = absurd (untrue h)
-    arm_ended (tree.Match scrutinee arms) x m scr id at ty by nr h r c want fit ref matched a ar to = absurd (untrue h)
-    arm_ended (tree.Loop inner) x m scr id at ty by nr h r c want fit ref matched a ar to = absurd (untrue h)
-    arm_ended (tree.While condition inner) x m scr id at ty by nr h r c want fit ref matched a ar to = absurd (untrue h)
-    arm_ended (tree.WhileLet pattern scrutinee inner) x m scr id at ty by nr h r c want fit ref matched a ar to = absurd (untrue h)
-    arm_ended (tree.Break loop value) x m scr id at ty by nr h r c want fit ref matched a ar to = absurd (untrue h)
-    arm_ended (tree.Continue loop) x m scr id at ty by nr h r c want fit ref matched a ar to = absurd (untrue h)
-    arm_ended (tree.Return value) x m scr id at ty by nr h r c want fit ref matched a ar to = absurd (untrue h)
-    arm_ended tree.Wildcard x m scr id at ty by nr h r c want fit ref matched a ar to = absurd (untrue h)
-    arm_ended (tree.Binding name) x m scr id at ty by nr h r c want fit ref matched a ar to = absurd (untrue h)
-    arm_ended (tree.NumberPattern value) x m scr id at ty by nr h r c want fit ref matched a ar to = absurd (untrue h)
-    arm_ended (tree.TruthPattern value) x m scr id at ty by nr h r c want fit ref matched a ar to = absurd (untrue h)
-    arm_ended (tree.StructPattern fields) x m scr id at ty by nr h r c want fit ref matched a ar to = absurd (untrue h)
-    arm_ended (tree.VariantPattern variant is_test fields) x m scr id at ty by nr h r c want fit ref matched a ar to = absurd (untrue h)
-    arm_ended (tree.TuplePattern parts) x m scr id at ty by nr h r c want fit ref matched a ar to = absurd (untrue h)
-    arm_ended (tree.ArrayPattern elements) x m scr id at ty by nr h r c want fit ref matched a ar to = absurd (untrue h)
-    arm_ended (tree.OrPattern alternatives) x m scr id at ty by nr h r c want fit ref matched a ar to = absurd (untrue h)
+    arm_ended other x m scr id at ty by nr h r c want fit ref matched a ar to = absurd (untrue h)
 
     guard_is : (z : Context) (guard : MaybeNode) → Holds (typing.guarded (X z) guard) → base.Rise g (nodes_if_any guard) → Cells (cells_if_any g.items true guard) → (a : LoopsAndGuards) → Around z a → nodes.GuardIs g L K about Q z.loops a (lower.lower_if_any F guard) (occ (cells_if_any g.items true guard))
     guard_is z absent h r c a ar = nodes.without

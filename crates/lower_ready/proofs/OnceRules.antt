@@ -13,7 +13,7 @@ use Rattle.store_model.specs.Effects as effects
 use Rattle.store_model.specs.Effects.{EffectSite, Action}
 use Rattle.store_model.specs.Places.Place.{Step, Place, whole_local}
 use Rattle.typed_tree.specs.Tree as tree
-use Rattle.typed_tree.specs.Tree.{Node, Form}
+use Rattle.typed_tree.specs.Tree.{Node}
 use Rattle.src_meaning.specs.Evaluation.{to_own_key}
 use Rattle.src_meaning.specs.Forms as source
 use Rattle.src_meaning.specs.Forms.{Destination, Into, Coerced, LoopsAndGuards, in_guard, in_loop, aliases_with, loop_destination, entry_of, bound_entry, site_in, site_of_key, moved}
@@ -26,11 +26,11 @@ use Rattle.well_typed.specs.Types as types
 use Rattle.lower_rules.specs.Build as build
 use Rattle.lower_rules.specs.Build.{LoweringFrame, Lowers, change, from_changed, then_lower, taken}
 use Rattle.lower_rules.specs.Lower as lower
-use Rattle.lower_rules.specs.Lower.{Evaluates, Reaches, NodeLower}
+use Rattle.lower_rules.specs.Lower.{NodeLower}
 use Rattle.lower_rules.proofs.KnownTypes.{never_known}
 use Rattle.lower_rules.proofs.Lines as lines
 use Rattle.lower_laws.proofs.Base as base
-use Rattle.lower_laws.proofs.Base.{Ground, untrue, and_first, and_second, and_false}
+use Rattle.lower_laws.proofs.Base.{Ground, untrue, and_first, and_second}
 use Rattle.lower_laws.proofs.Names as names
 use Rattle.lower_laws.proofs.Rules as rules
 use Rattle.lower_ready.proofs.Once as once
@@ -88,16 +88,7 @@ module _ (g : Ground) (L K : ℕ) (about : About g L K) (Q : Type 0) where
       of_ty k None r h = untrue r
       of_ty k (Some (Ty.Shared to)) r h = untrue h
       of_ty k (Some (Ty.Unique to)) r h = untrue h
-      of_ty k (Some (Ty.Int kind)) r h = untrue r
-      of_ty k (Some Ty.Bool) r h = untrue r
-      of_ty k (Some Ty.Unit) r h = untrue r
-      of_ty k (Some Ty.Never) r h = untrue r
-      of_ty k (Some (Ty.Adt n)) r h = untrue r
-      of_ty k (Some (Ty.Tuple parts)) r h = untrue r
-      of_ty k (Some (Ty.Array element count)) r h = untrue r
-      of_ty k (Some (Ty.Boxed content)) r h = untrue r
-      of_ty k (Some (Ty.Dyn n)) r h = untrue r
-      of_ty k (Some (Ty.Closure n)) r h = untrue r
+      of_ty k (Some other) r h = untrue r
 
       on : (k : ℕ) → in_rounds g.items.types (drop_rule g.items.adts g.items.closures) k ty ≡ true → ⊥
       on zero h = untrue h

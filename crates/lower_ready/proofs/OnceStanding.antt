@@ -8,7 +8,7 @@ use Rattle.mir_ty.specs.declared.ty.TyId.{TyId}
 use Rattle.mir_ty.specs.ItemTable.{type_at}
 use Rattle.typed_tree.specs.declared.node.Use.{Use}
 use Rattle.typed_tree.specs.Tree as tree
-use Rattle.typed_tree.specs.Tree.{Node, Form, Nodes, no_node, a_node, Fields, no_field, a_field, MaybeNode, absent, present}
+use Rattle.typed_tree.specs.Tree.{Node, Form}
 use Rattle.src_meaning.specs.Forms.{Destination, LoopsAndGuards}
 use Rattle.src_meaning.specs.Locals.OfBody.{cells, bool_ty, is_place_form}
 use Rattle.src_meaning.specs.Scopes.{Entry}
@@ -16,16 +16,16 @@ use Rattle.src_meaning.specs.Shape.{NodeHead, Shape, shape, shape_of}
 use Rattle.well_typed.specs.Claim.{Holds, fact, ◌&◌}
 use Rattle.well_typed.specs.Nodes as typing
 use Rattle.well_typed.specs.Patterns as patterns
-use Rattle.well_typed.specs.Patterns.{Matched, entries_of}
+use Rattle.well_typed.specs.Patterns.{Matched}
 use Rattle.well_typed.specs.Places as scopes
-use Rattle.well_typed.specs.Places.{InScope, LoopAround, Context, Standing, Taken, Wanted, Passed, Base, Used, Stored, with_entries, within, entry_with, loop_with, ty_of, form_of}
+use Rattle.well_typed.specs.Places.{InScope, LoopAround, Context, Taken, Wanted, Base, Used, Stored, ty_of, form_of}
 use Rattle.well_typed.specs.Types as types
 use Rattle.lower_rules.specs.Build.{LoweringFrame, Lowers, then_lower}
 use Rattle.lower_rules.specs.Lower as lower
-use Rattle.lower_rules.specs.Lower.{NodeLower, LowerIfAny}
+use Rattle.lower_rules.specs.Lower.{NodeLower}
 use Rattle.lower_rules.proofs.KnownTypes.{bool_known, unit_known, int_known, same_never}
 use Rattle.lower_laws.proofs.Base as base
-use Rattle.lower_laws.proofs.Base.{Ground, untrue, and_first, and_second, and_false, both_false, either, same_id, found}
+use Rattle.lower_laws.proofs.Base.{Ground, untrue, and_first, and_second, either, same_id}
 use Rattle.lower_laws.proofs.Rules as rules
 use Rattle.lower_ready.proofs.Once as once
 use Rattle.lower_ready.proofs.Once.{About}
@@ -218,58 +218,7 @@ module _ (g : Ground) (L K : ℕ) (about : About g L K) (Q : Type 0) where
 
   pub shape_same : (n : Node) → (N n).shape ≡ shape g.items n
   shape_same (tree.node id at ty by (tree.Number value)) = refl
-  shape_same (tree.node id at ty by (tree.Truth value)) = refl
-  shape_same (tree.node id at ty by tree.UnitValue) = refl
-  shape_same (tree.node id at ty by (tree.Variable key)) = refl
-  shape_same (tree.node id at ty by (tree.Captured closure part name)) = refl
-  shape_same (tree.node id at ty by (tree.Field base part)) = refl
-  shape_same (tree.node id at ty by (tree.Index base index count)) = refl
-  shape_same (tree.node id at ty by (tree.Deref base)) = refl
-  shape_same (tree.node id at ty by (tree.Not operand)) = refl
-  shape_same (tree.node id at ty by (tree.Negate operand)) = refl
-  shape_same (tree.node id at ty by (tree.Arithmetic operator left right)) = refl
-  shape_same (tree.node id at ty by (tree.Comparison operator left right)) = refl
-  shape_same (tree.node id at ty by (tree.And left right)) = refl
-  shape_same (tree.node id at ty by (tree.Or left right)) = refl
-  shape_same (tree.node id at ty by (tree.Assign target value)) = refl
-  shape_same (tree.node id at ty by (tree.Call callee args)) = refl
-  shape_same (tree.node id at ty by (tree.MethodCall callee receiver args)) = refl
-  shape_same (tree.node id at ty by (tree.VirtualCall trait_no method receiver args)) = refl
-  shape_same (tree.node id at ty by (tree.ClosureCall callee closure args)) = refl
-  shape_same (tree.node id at ty by (tree.Make adt variant fields)) = refl
-  shape_same (tree.node id at ty by (tree.Tuple parts)) = refl
-  shape_same (tree.node id at ty by (tree.Array elements)) = refl
-  shape_same (tree.node id at ty by (tree.Closure closure captures)) = refl
-  shape_same (tree.node id at ty by (tree.NewBox content)) = refl
-  shape_same (tree.node id at ty by (tree.Print operand)) = refl
-  shape_same (tree.node id at ty by tree.Ask) = refl
-  shape_same (tree.node id at ty by (tree.DropValue operand)) = refl
-  shape_same (tree.node id at ty by (tree.Forget operand)) = refl
-  shape_same (tree.node id at ty by tree.Panic) = refl
-  shape_same (tree.node id at ty by (tree.Borrow unique base)) = refl
-  shape_same (tree.node id at ty by (tree.Unsize trait_no operand)) = refl
-  shape_same (tree.node id at ty by (tree.Block stmts tail)) = refl
-  shape_same (tree.node id at ty by (tree.Let pattern initialiser)) = refl
-  shape_same (tree.node id at ty by (tree.Evaluate expression)) = refl
-  shape_same (tree.node id at ty by (tree.If condition consequent otherwise)) = refl
-  shape_same (tree.node id at ty by (tree.IfLet pattern scrutinee consequent otherwise)) = refl
-  shape_same (tree.node id at ty by (tree.Match scrutinee arms)) = refl
-  shape_same (tree.node id at ty by (tree.Arm pattern guard inner)) = refl
-  shape_same (tree.node id at ty by (tree.Loop inner)) = refl
-  shape_same (tree.node id at ty by (tree.While condition inner)) = refl
-  shape_same (tree.node id at ty by (tree.WhileLet pattern scrutinee inner)) = refl
-  shape_same (tree.node id at ty by (tree.Break loop value)) = refl
-  shape_same (tree.node id at ty by (tree.Continue loop)) = refl
-  shape_same (tree.node id at ty by (tree.Return value)) = refl
-  shape_same (tree.node id at ty by tree.Wildcard) = refl
-  shape_same (tree.node id at ty by (tree.Binding name)) = refl
-  shape_same (tree.node id at ty by (tree.NumberPattern value)) = refl
-  shape_same (tree.node id at ty by (tree.TruthPattern value)) = refl
-  shape_same (tree.node id at ty by (tree.StructPattern fields)) = refl
-  shape_same (tree.node id at ty by (tree.VariantPattern variant is_test fields)) = refl
-  shape_same (tree.node id at ty by (tree.TuplePattern parts)) = refl
-  shape_same (tree.node id at ty by (tree.ArrayPattern elements)) = refl
-  shape_same (tree.node id at ty by (tree.OrPattern alternatives)) = refl
+  shape_same (tree.node id at ty by other) = refl
 
   pub shaped : NotRef (bool_ty g.items) → (p : Node) (m : Matched) (want : TyId) → NotRef want → Holds (patterns.pattern g.items m want p) → Cells (cells g.items true p) → nodes.Shaped g L K about Q (N p)
   shaped nb p m want n h c place f =

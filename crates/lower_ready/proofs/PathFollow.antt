@@ -20,7 +20,7 @@ use Rattle.cfg_meaning.specs.Actions.{site_of, operand_of, operands_of, action_o
 use Rattle.cfg_meaning.specs.Walk.{acts, Next, ◌>>=◌, renamed, naming, stmts_do, term_does, block_does}
 use Rattle.move_errors.proofs.Pathways.{in-map, in-flat}
 use Rattle.move_errors.proofs.Sorted.{none-in}
-use Rattle.lower_rules.proofs.Simulation.{Walks}
+use Rattle.lower_rules.proofs.TiedWalks.{Walks}
 use Rattle.lower_rules.specs.Spots.{CodeTarget}
 use Rattle.lower_ready.proofs.Noting.{Note, Sees, is_call, before, tested, may_panic, Watched, left_of, choice, looked, acts_by, needs_at, watching}
 use Rattle.lower_ready.proofs.PathWatch as watch

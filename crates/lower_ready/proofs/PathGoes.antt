@@ -44,32 +44,12 @@ or_false false e = e
 made : (o : Option Ty) (test : Option Ty → Bool) → test (Some Ty.Never) ≡ false → test o ≡ true → is_never o ≡ false
 made (Some Ty.Never) test none passes = absurd (false≢true (sym none ∙ passes))
 made None test none passes = refl
-made (Some Ty.Unit) test none passes = refl
-made (Some Ty.Bool) test none passes = refl
-made (Some (Ty.Int kind)) test none passes = refl
-made (Some (Ty.Tuple parts)) test none passes = refl
-made (Some (Ty.Array element count)) test none passes = refl
-made (Some (Ty.Adt n)) test none passes = refl
-made (Some (Ty.Closure n)) test none passes = refl
-made (Some (Ty.Boxed inside)) test none passes = refl
-made (Some (Ty.Shared to)) test none passes = refl
-made (Some (Ty.Unique to)) test none passes = refl
-made (Some (Ty.Dyn n)) test none passes = refl
+made (Some other) test none passes = refl
 
 same_int_never : (o : Option Ty) → same_int o (Some Ty.Never) ≡ false
 same_int_never None = refl
 same_int_never (Some Ty.Never) = refl
-same_int_never (Some Ty.Unit) = refl
-same_int_never (Some Ty.Bool) = refl
-same_int_never (Some (Ty.Int kind)) = refl
-same_int_never (Some (Ty.Tuple parts)) = refl
-same_int_never (Some (Ty.Array element count)) = refl
-same_int_never (Some (Ty.Adt n)) = refl
-same_int_never (Some (Ty.Closure n)) = refl
-same_int_never (Some (Ty.Boxed inside)) = refl
-same_int_never (Some (Ty.Shared to)) = refl
-same_int_never (Some (Ty.Unique to)) = refl
-same_int_never (Some (Ty.Dyn n)) = refl
+same_int_never (Some other) = refl
 
 module _ (p : ProgramTree) (w : WellTyped p) (low : IsLowerable p) (n : ℕ) (tree : BodyTree)
     (there : slice_get p.bodies n ≡ Some tree) where
@@ -117,16 +97,7 @@ module _ (p : ProgramTree) (w : WellTyped p) (low : IsLowerable p) (n : ℕ) (tr
       (same_int_never (ty_of_operand items locals of))
       (second_so _ (same_int (ty_of_operand items locals of) (ty_of_place items locals to)) h)
   makes_none (Term.Ask to next unwind) h = made (ty_of_place items locals to) (is_int IntKind.I32) refl h
-  makes_none (Term.Goto block) h = refl
-  makes_none (Term.If on if_true if_false) h = refl
-  makes_none (Term.Case on variant if_true if_false) h = refl
-  makes_none (Term.Bounds index count next unwind) h = refl
-  makes_none (Term.Call to callee args next unwind) h = refl
-  makes_none (Term.Virtual to trait_no method args next unwind) h = refl
-  makes_none (Term.DropAt place next unwind) h = refl
-  makes_none (Term.Panic why unwind) h = refl
-  makes_none Term.Return h = refl
-  makes_none Term.Resume h = refl
+  makes_none other h = refl
 
   -- ---- statements
 

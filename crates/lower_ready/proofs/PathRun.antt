@@ -20,7 +20,8 @@ use Rattle.src_meaning.specs.Programs.{activation}
 use Rattle.move_errors.proofs.Pathways.{in-map}
 use Rattle.move_errors.proofs.Sorted.{none-in}
 use Rattle.lower_rules.proofs.FreeWalks.{renamed_no_unwind, renamed_not_on, halting_no_unwind}
-use Rattle.lower_rules.proofs.Simulation.{NoUnwind, Settled, Walks, body_runs}
+use Rattle.lower_rules.proofs.Simulation.{body_runs}
+use Rattle.lower_rules.proofs.TiedWalks.{NoUnwind, Settled, Walks}
 use Rattle.lower_rules.proofs.WalksOfBodies.{Walk, walks}
 use Rattle.lower_rules.specs.CodeLaws.{without_place, target_of, HoldsBody}
 use Rattle.lower_ready.proofs.Noting.{Note, Sees, may_panic, Watched, left_of, acts_by, watching, watching_laws}
@@ -93,10 +94,18 @@ module _ {M : Type 0} (items : ItemTable) (tree : BodyTree) (body : Body) (node 
   in_run (zero ∷ path) given is m b =
       unnamed (run ty given m)
       (subst EndsBad
-      (sym (body_runs (target_of items tree body node) p (naming without_place p) left_of (length given)
-      (naming_laws left_of without_place p (watching_laws items ty see))
-      (tied_itself left_of (length given) (naming without_place p)) (settled (length given)) W so (suc (length given))
-      (omega arith) tree holds.holds_code w (omega arith)))
+      (sym (body_runs (record {
+        t = target_of items tree body node;
+        p = p;
+        q = naming without_place p;
+        size = left_of;
+        bound = length given;
+        laws = naming_laws left_of without_place p (watching_laws items ty see);
+        tied = tied_itself left_of (length given) (naming without_place p);
+        settled = settled (length given);
+        Walk = W;
+        walks = so;
+      }) (suc (length given)) (omega arith) tree holds.holds_code w (omega arith)))
       (following.from_start (target_of items tree body node) see Bad stays none_seen without_place (length given) W so
       (λ n v c. watch.renamed_bad items ty see Bad stays without_place (walk p 0 node body (suc (length given)) n v)
       (watch.walk_bad items ty see Bad stays 0 node body (suc (length given)) n v c))

@@ -7,7 +7,7 @@ use Rattle.mir_ty.specs.declared.ty.TyId.{TyId}
 use Rattle.mir_ty.specs.ItemTable.{ItemTable}
 use Rattle.store_model.specs.Abstract.Effects.{never_at}
 use Rattle.store_model.specs.Effects as effects
-use Rattle.store_model.specs.Effects.{EffectSite, Action, Test, Mode, Normal, Unwinding, Halt, Aborted, Stuck, Unreachable, Infeasible, Out, Go, Unwind as Unwinds, Halts, Choice, Yes, No, Neither, Effects, stores_where, halting_if}
+use Rattle.store_model.specs.Effects.{EffectSite, Action, Mode, Normal, Unwinding, Halt, Stuck, Unreachable, Infeasible, Out, Go, Unwind as Unwinds, Halts, Choice, Yes, No, Neither, Effects, stores_where, halting_if}
 use Rattle.store_model.specs.Places.TypeForms.{is_never}
 use Rattle.cfg_graph.specs.declared.graph.Block.{Block}
 use Rattle.cfg_graph.specs.declared.graph.Body.{Body}
@@ -80,19 +80,7 @@ stmt_notes n (Stmt.Free place) = all_are n [] (other_uses (Stmt.Free place)) []
 
 pub is_statement : (n : ℕ) (stmt : Stmt) → may_panic (action_of n stmt) ≡ false
 is_statement n (Stmt.Put to from) = refl
-is_statement n (Stmt.Compare to op left right) = refl
-is_statement n (Stmt.Not to operand) = refl
-is_statement n (Stmt.Tuple to parts) = refl
-is_statement n (Stmt.Array to parts) = refl
-is_statement n (Stmt.Make to adt variant parts) = refl
-is_statement n (Stmt.Close to closure parts) = refl
-is_statement n (Stmt.NewBox to operand) = refl
-is_statement n (Stmt.Unsize to trait_no from) = refl
-is_statement n (Stmt.Borrow to unique of) = refl
-is_statement n (Stmt.Touch place) = refl
-is_statement n (Stmt.Print operand) = refl
-is_statement n (Stmt.Forget operand) = refl
-is_statement n (Stmt.Free place) = refl
+is_statement n other = refl
 
 -- ---- a statement that stores a value of type `!`
 

@@ -381,7 +381,7 @@ module _ (p : ProgramTree) (w : WellTyped p) (n : ℕ) (body : BodyTree) (at_n :
 
     -- ---- what is built
     abbrev last : BlockRest
-    last = ending (Term.Goto 1) (answer_key body)
+    last = ending (Term.Goto 1) 0
 
     abbrev code : BlockRest × Building
     code = (lower.entire_function F body).build (body_ways 1) (lower.answer_scope F body) last (lower.start F body)
@@ -400,9 +400,9 @@ module _ (p : ProgramTree) (w : WellTyped p) (n : ℕ) (body : BodyTree) (at_n :
         let r : total (lower.built F body) ≡ function_once.count = omega (f, a, z, arith) in r
 
     begun_ok : (b : Bool) → lines.Ok F (W b) (lower.start F body)
-    begun_ok b = lines.closed_ok F (W b) Kind.Plain (ending Term.Return (answer_key body)) (reserved (record { blocks = []; chains = [] })) (lines.reserved_ok F (W b) (record { blocks = []; chains = [] }) none) (tt, once.return_is g L K about Q b)
+    begun_ok b = lines.closed_ok F (W b) Kind.Plain (ending Term.Return (answer_key body)) (reserved (record { blocks = []; shared = λ i. [] })) (lines.reserved_ok F (W b) (record { blocks = []; shared = λ i. [] }) none) (tt, once.return_is g L K about Q b)
       where
-        none : lines.Ok F (W b) (record { blocks = []; chains = [] })
+        none : lines.Ok F (W b) (record { blocks = []; shared = λ i. [] })
         none = record { blocks = λ n m e. absurd (none-some (Some m) e) }
 
     built_ok : (b : Bool) → once.Sound g L K about Q b (lower.entire_function F body) → lines.Ok F (W b) (lower.built F body)

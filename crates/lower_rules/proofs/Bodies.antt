@@ -40,7 +40,7 @@ use Rattle.lower_rules.specs.Spots.{CodeTarget, body_ways, StepAt, stays, goes, 
 use Rattle.lower_rules.specs.Build.{LoweringFrame, BlockRest, MadeBlock, Building, ending, made, reserved, Lowers}
 use Rattle.lower_rules.specs.Laws.{NamesItsLoops, AllNameTheirLoops, LoweredRunsAsItsSource, LoweredWalksAsItRunsFreely, LoweredIsRanked, LoweredKeepsToCleanup, LoweredIsPrepared, IsRefilledIn, LoweredRefillsParts}
 use Rattle.lower_rules.specs.Lower as lower
-use Rattle.lower_rules.specs.Lower.{frame, entire_function, start, built, blocks_of, nodes_of, body_of, node_in, node_of, graph_of}
+use Rattle.lower_rules.specs.Lower.{frame, entire_function, start, built, nodes_of, body_of, node_of, graph_of}
 use Rattle.lower_rules.proofs.Forms.{function_at, function_lowers}
 use Rattle.lower_rules.proofs.Jumps.{no_jumps}
 use Rattle.lower_rules.proofs.LaidBlocks as laid
@@ -89,7 +89,7 @@ module _ (items : ItemTable) (tree : BodyTree) (named : NamesItsLoops tree) wher
   S = lower.answer_scope F tree
 
   abbrev last : BlockRest
-  last = ending (Term.Goto 1) (answer_key tree)
+  last = ending (Term.Goto 1) 0
 
   abbrev r : BlockRest × Building
   r = P.build (body_ways 1) S last begun
@@ -131,8 +131,8 @@ module _ (items : ItemTable) (tree : BodyTree) (named : NamesItsLoops tree) wher
   later_start : laid.Later t begun
   later_start = laid.later_before t begun r.1 (lowered.grows (body_ways 1) S last begun) later_code
 
-  no_chain : laid.ChainsStand t begun
-  no_chain es n e = absurd (none-some n e)
+  none_shared : laid.SharedStand t begun
+  none_shared d i n e = absurd (none-some n e)
 
   used : JumpWays IsUsed (body_ways 1) P.jumps
   used = (refl, subst (λ jumps. laid.AllWays IsUsed (body_ways 1) jumps) (sym (no_jumps F tree named)) tt)
@@ -158,11 +158,11 @@ module _ (items : ItemTable) (tree : BodyTree) (named : NamesItsLoops tree) wher
   begins_plain = ((made Kind.Plain (length r.1.blocks) r.0).block, first_at.0, refl)
 
   code_joins : Joins t (FunctionAt t tree 1) S (0, 0) S (1, 0)
-  code_joins = by_end P.has_end ((lowered.holds (body_ways 1) S last begun used later_code no_chain).1 (0, 0) first_at.1)
+  code_joins = by_end P.has_end ((lowered.holds (body_ways 1) S last begun used later_code none_shared).1 (0, 0) first_at.1)
     where
       by_end : (x : Bool) → laid.CodeEnds t x P (function_at t tree) (body_ways 1) S last (0, 0) → Joins t (FunctionAt t tree 1) S (0, 0) S (1, 0)
       by_end true h =
-          (h.0, subst (λ S'. FunctionAt t tree 1 S (0, 0) S' h.0) (function_after F tree S) h.2, goes 1 (laid.ends_with t (Term.Goto 1) (answer_key tree) h.0 h.1) return_step)
+          (h.0, subst (λ S'. FunctionAt t tree 1 S (0, 0) S' h.0) (function_after F tree S) h.2, goes 1 (laid.ends_with t (Term.Goto 1) 0 h.0 h.1) return_step)
       by_end false h = ((1, 0), h S (1, 0), stays)
 
   holds_code : BodyAt t tree
@@ -170,15 +170,15 @@ module _ (items : ItemTable) (tree : BodyTree) (named : NamesItsLoops tree) wher
       (1, ((made Kind.Plain (length r.1.blocks) r.0).block, first_at.0, refl), return_step, (returning.block, return_at.0, refl, refl), return_at.1.0, first_local, code_joins)
 
   -- ---- ranks
-  reserved_begins : Ranked (reserved (record { blocks = []; chains = [] }))
-  reserved_begins = record { blocks = λ n m e. not_made n m e; chains = λ es n e. absurd (none-some n e); begun = omega arith }
+  reserved_begins : Ranked (reserved (record { blocks = []; shared = λ i. [] }))
+  reserved_begins = record { blocks = λ n m e. not_made n m e; shared = λ d i n e. absurd (none-some n e); begun = omega arith }
     where
       not_made : (n : ℕ) (m : MadeBlock) → ◌≡◌ {A = Option (Option MadeBlock)} (slice_get (None ∷ []) n) (Some (Some m)) → laid.MadeWell n m
       not_made zero m e = absurd (none-some m (same_Some None (Some m) e))
       not_made (suc n) m e = absurd (none-some (Some m) e)
 
   begun_ranked : Ranked begun
-  begun_ranked = closed_ranked Kind.Plain (ending Term.Return (answer_key tree)) (reserved (record { blocks = []; chains = [] })) reserved_begins tt
+  begun_ranked = closed_ranked Kind.Plain (ending Term.Return (answer_key tree)) (reserved (record { blocks = []; shared = λ i. [] })) reserved_begins tt
 
   code_ranked : Ranked r.1 × LeadsOn r.0 r.1
   code_ranked = lowered.ranks (body_ways 1) S last begun ((omega arith, omega arith), subst (λ jumps. laid.AllWays (BlockGiven (length begun.blocks)) (body_ways 1) jumps) (sym (no_jumps F tree named)) tt) begun_ranked ((omega arith, omega arith), tt)
@@ -247,36 +247,17 @@ module _ (items : ItemTable) (tree : BodyTree) (named : NamesItsLoops tree) wher
   ended kind term = record { kind = kind; rank = 0; stmts = []; term = term }
 
   keeps_plain : (node : ℕ) (term : Term) → laid.LeadsWell t term node → keeps_to_cleanup t.body (ended Kind.Plain term) ≡ true
-  keeps_plain node (Term.Goto n) h = both _ _ (none_clean (onward (Term.Goto n)) h.0) (all_clean (unwind_targets (Term.Goto n)) h.1)
-  keeps_plain node (Term.If on y n) h = both _ _ (none_clean (onward (Term.If on y n)) h.0) (all_clean (unwind_targets (Term.If on y n)) h.1)
-  keeps_plain node (Term.Case on variant y n) h = both _ _ (none_clean (onward (Term.Case on variant y n)) h.0) (all_clean (unwind_targets (Term.Case on variant y n)) h.1)
-  keeps_plain node (Term.Math to op left right n u) h = both _ _ (none_clean (onward (Term.Math to op left right n u)) h.0) (all_clean (unwind_targets (Term.Math to op left right n u)) h.1)
-  keeps_plain node (Term.Negate to of n u) h = both _ _ (none_clean (onward (Term.Negate to of n u)) h.0) (all_clean (unwind_targets (Term.Negate to of n u)) h.1)
-  keeps_plain node (Term.Bounds index count n u) h = both _ _ (none_clean (onward (Term.Bounds index count n u)) h.0) (all_clean (unwind_targets (Term.Bounds index count n u)) h.1)
-  keeps_plain node (Term.Call to body args n u) h = both _ _ (none_clean (onward (Term.Call to body args n u)) h.0) (all_clean (unwind_targets (Term.Call to body args n u)) h.1)
-  keeps_plain node (Term.Virtual to trait_no method args n u) h = both _ _ (none_clean (onward (Term.Virtual to trait_no method args n u)) h.0) (all_clean (unwind_targets (Term.Virtual to trait_no method args n u)) h.1)
-  keeps_plain node (Term.Ask to n u) h = both _ _ (none_clean (onward (Term.Ask to n u)) h.0) (all_clean (unwind_targets (Term.Ask to n u)) h.1)
-  keeps_plain node (Term.DropAt place n u) h = both _ _ (none_clean (onward (Term.DropAt place n u)) h.0) (all_clean (unwind_targets (Term.DropAt place n u)) h.1)
-  keeps_plain node (Term.Panic why u) h = both _ _ (none_clean (onward (Term.Panic why u)) h.0) (all_clean (unwind_targets (Term.Panic why u)) h.1)
   keeps_plain node Term.Return h = refl
   keeps_plain node Term.Resume h = absurd (let never : true ≡ false = h.2 in cc)
+  keeps_plain node other h = both _ _ (none_clean (onward other) h.0) (all_clean (unwind_targets other) h.1)
 
   keeps_clean : (term : Term) → laid.CleansUp t term → (keeps_to_cleanup t.body (ended Kind.Cleanup term) ≡ true) × AllStand (targets term)
   keeps_clean (Term.Goto n) h = (all_clean (n ∷ []) (h, tt), (slice_get_within t.body.blocks n h.0 h.1, tt))
-  keeps_clean (Term.If on y n) h = absurd h
-  keeps_clean (Term.Case on variant y n) h = absurd h
-  keeps_clean (Term.Math to op left right n u) h = absurd h
-  keeps_clean (Term.Negate to of n u) h = absurd h
-  keeps_clean (Term.Bounds index count n u) h = absurd h
-  keeps_clean (Term.Call to body args n u) h = absurd h
-  keeps_clean (Term.Virtual to trait_no method args n u) h = absurd h
-  keeps_clean (Term.Ask to n u) h = absurd h
   keeps_clean (Term.DropAt place n u) h =
       subst (λ u. (keeps_to_cleanup t.body (ended Kind.Cleanup (Term.DropAt place n u)) ≡ true) × AllStand (targets (Term.DropAt place n u))) (sym h.1)
       (all_clean (n ∷ []) (h.0, tt), (slice_get_within t.body.blocks n h.0.0 h.0.1, tt))
-  keeps_clean (Term.Panic why u) h = absurd h
-  keeps_clean Term.Return h = absurd h
   keeps_clean Term.Resume h = (refl, tt)
+  keeps_clean other h = absurd h
 
   keeps : (node : ℕ) (block : Block) → laid.EndsWell t (is_cleanup block) block.term node → (keeps_to_cleanup t.body block ≡ true) × AllStand (targets block.term)
   keeps node block h = by_kind block.kind h
@@ -287,8 +268,8 @@ module _ (items : ItemTable) (tree : BodyTree) (named : NamesItsLoops tree) wher
       by_kind Kind.Cleanup h = keeps_clean block.term h
 
   start_tidy : laid.Tidy t begun
-  start_tidy = laid.closed_tidy t Kind.Plain (ending Term.Return (answer_key tree)) (reserved (record { blocks = []; chains = [] }))
-      (branch_rules.reserved_tidy t (record { blocks = []; chains = [] }) (record { blocks = λ n m e. absurd (none-some (Some m) e); chains = λ es n e. absurd (none-some n e) })) ((tt, tt, refl, tt), tt)
+  start_tidy = laid.closed_tidy t Kind.Plain (ending Term.Return (answer_key tree)) (reserved (record { blocks = []; shared = λ i. [] }))
+      (branch_rules.reserved_tidy t (record { blocks = []; shared = λ i. [] }) (record { blocks = λ n m e. absurd (none-some (Some m) e); shared = λ d i n e. absurd (none-some n e) })) ((tt, tt, refl, tt), tt)
 
   return_plain : laid.KindAt t false 1
   return_plain = (returning.block, return_at.0, refl)
@@ -356,18 +337,9 @@ module _ (items : ItemTable) (tree : BodyTree) (named : NamesItsLoops tree) wher
   -- a place that is dropped may be left gone, or is stored into at once
   clean_drops : (node : ℕ) (term : Term) → laid.CleansUp t term → laid.DropsWell t term node
   clean_drops node (Term.Goto n) h = tt
-  clean_drops node (Term.If on y n) h = absurd h
-  clean_drops node (Term.Case on variant y n) h = absurd h
-  clean_drops node (Term.Math to op left right n u) h = absurd h
-  clean_drops node (Term.Negate to of n u) h = absurd h
-  clean_drops node (Term.Bounds index count n u) h = absurd h
-  clean_drops node (Term.Call to body args n u) h = absurd h
-  clean_drops node (Term.Virtual to trait_no method args n u) h = absurd h
-  clean_drops node (Term.Ask to n u) h = absurd h
-  clean_drops node (Term.Panic why u) h = absurd h
-  clean_drops node Term.Return h = absurd h
   clean_drops node Term.Resume h = tt
   clean_drops node (Term.DropAt place n u) h = subst (λ u. laid.DropsWell t (Term.DropAt place n u) node) (sym h.1) h.2
+  clean_drops node other h = absurd h
 
   ends_drop : (x : Bool) (node : ℕ) (term : Term) → laid.EndsWell t x term node → laid.DropsWell t term node
   ends_drop true node term h = clean_drops node term h

@@ -19,7 +19,7 @@ use Rattle.lower_code.specs.Forms.{NodeWords, WordsIfAny, no_code, a_code}
 use Rattle.lower_rules.specs.Build as build
 use Rattle.lower_rules.specs.Build.{LoweringFrame, Lowers, change, act, tests, panics, nothing, from_changed, then_lower, branches, looped, in_scope, jump, exits, leave}
 use Rattle.lower_rules.specs.Lower as low
-use Rattle.lower_rules.specs.Lower.{NodeLower, LowerIfAny, no_lower, a_lower, LowersArm}
+use Rattle.lower_rules.specs.Lower.{NodeLower, LowerIfAny, no_lower, a_lower}
 use Rattle.lower_rules.specs.Codes.{lowers, lowers_arm, lowers_arms, some_end, all_jumps, built_from, matches}
 
 module _ (f : LoweringFrame) where
@@ -468,15 +468,7 @@ module _ (f : LoweringFrame) where
         Then (code.value_of_jump h.id (code.code_if_any f.items given) around around.answer) (Exits h.id Returns))
         (λ around to. jump f h.id Returns (low.value_of_jump f h (low.lower_if_any f given) around around.answer))
         (λ around to. ap (λ P. then_lower P (exits f h.id Returns)) (jump_given h given around around.answer (any_same given)))
-    same_form tree.Wildcard h s = pattern_same h s
-    same_form (tree.Binding name) h s = pattern_same h s
-    same_form (tree.NumberPattern number) h s = pattern_same h s
-    same_form (tree.TruthPattern truth) h s = pattern_same h s
-    same_form (tree.StructPattern fields) h s = pattern_same h s
-    same_form (tree.VariantPattern variant is_test fields) h s = pattern_same h s
-    same_form (tree.TuplePattern parts) h s = pattern_same h s
-    same_form (tree.ArrayPattern elements) h s = pattern_same h s
-    same_form (tree.OrPattern alternatives) h s = pattern_same h s
+    same_form other h s = pattern_same h s
 
     all_same : (ns : Nodes) → all_lowered (code.codes f.items ns) ≡ low.lower_all f ns
     all_same no_node = refl

@@ -14,12 +14,13 @@ use Rattle.store_model.proofs.Effects.Agreement.{tied_itself}
 use Rattle.store_model.proofs.Effects.NeverStores.{free_runs_store_no_never}
 use Rattle.store_model.specs.Abstract.Effects.{AbstractState, at_start, abstract_effects, when, unless_never, operand_used, operands_used, store, never_at, acted_on, after}
 use Rattle.store_model.specs.Effects as effects
-use Rattle.store_model.specs.Effects.{EffectSite, Action, Halt, Stuck, StuckAt, Out, Go, Unwind, Halts, Effects, halting_if, DoesNotGoOn}
+use Rattle.store_model.specs.Effects.{EffectSite, Halt, Out, Go, Unwind, Halts, Effects, halting_if, DoesNotGoOn}
 use Rattle.typed_tree.specs.Tree.{BodyTree}
 use Rattle.src_meaning.specs.Locals.Effects.{at_locals}
 use Rattle.src_meaning.specs.Locals.OfBody.{local_of, local_ty}
 use Rattle.src_meaning.specs.Programs.{activation, free_run, refused_of, reached_by}
-use Rattle.lower_rules.proofs.Simulation.{NoUnwind, Settled, body_runs}
+use Rattle.lower_rules.proofs.Simulation.{body_runs}
+use Rattle.lower_rules.proofs.TiedWalks.{NoUnwind, Settled}
 use Rattle.lower_rules.proofs.WalksOfBodies.{Walk, walks}
 use Rattle.lower_rules.specs.CodeLaws.{without_place, target_of, HoldsBody, WalksAsItRunsFreely}
 
@@ -89,14 +90,7 @@ refused_without_place : (o : Out AbstractState) → refused_of (renamed without_
 refused_without_place (Go w) = refl
 refused_without_place (Unwind w) = refl
 refused_without_place (Halts effects.Aborted w) = refl
-refused_without_place (Halts effects.OutOfTicks w) = refl
-refused_without_place (Halts Stuck w) = refl
-refused_without_place (Halts (StuckAt body block) w) = refl
-refused_without_place (Halts (effects.BadUse site) w) = refl
-refused_without_place (Halts (effects.BadStore site) w) = refl
-refused_without_place (Halts effects.NoChoice w) = refl
-refused_without_place (Halts effects.Infeasible w) = refl
-refused_without_place (Halts effects.Unreachable w) = refl
+refused_without_place (Halts other w) = refl
 
 module _ (items : ItemTable) (tree : BodyTree) (body : Body) (node : ℕ → ℕ → ℕ) (holds : HoldsBody items tree body node) where
   abbrev ty : ℕ → Option TyId
@@ -122,11 +116,18 @@ module _ (items : ItemTable) (tree : BodyTree) (body : Body) (node : ℕ → ℕ
   same_walk list =
       sym (ap (λ n. renamed without_place (run_with (local_ty items tree) n list)) (sym holds.params)
       ∙ ap (λ tys. renamed without_place (run_with (slice_get tys) body.params list)) (sym holds.locals)
-      ∙ body_runs (target_of items tree body node) p (naming without_place p) choices_of (length list) (naming_laws choices_of without_place p (free_laws items ty))
-      (tied_itself choices_of (length list) (naming without_place p)) (settled (length list))
-      (Walk choices_of p (free_laws items ty) 0 node (target_of items tree body node) (λ n block next w. refl) holds.ranked (length list) (suc (length list)) (omega arith))
-      (walks choices_of p (free_laws items ty) 0 node (target_of items tree body node) (λ n block next w. refl) holds.ranked (length list) (suc (length list)) (omega arith))
-      (suc (length list)) (omega arith) tree holds.holds_code (started body.params list) (omega arith))
+      ∙ body_runs (record {
+        t = target_of items tree body node;
+        p = p;
+        q = naming without_place p;
+        size = choices_of;
+        bound = length list;
+        laws = naming_laws choices_of without_place p (free_laws items ty);
+        tied = tied_itself choices_of (length list) (naming without_place p);
+        settled = settled (length list);
+        Walk = Walk choices_of p (free_laws items ty) 0 node (target_of items tree body node) (λ n block next w. refl) holds.ranked (length list) (suc (length list)) (omega arith);
+        walks = walks choices_of p (free_laws items ty) 0 node (target_of items tree body node) (λ n block next w. refl) holds.ranked (length list) (suc (length list)) (omega arith);
+      }) (suc (length list)) (omega arith) tree holds.holds_code (started body.params list) (omega arith))
 
   same_refused : (list : List Bool) → refused_of (free_walk items node body list) ≡ reached_by items tree list
   same_refused list =

@@ -15,10 +15,10 @@ use Rattle.src_meaning.specs.Scopes.{Scope, Scopes, with_scope, innermost, aroun
 use Rattle.src_meaning.specs.Shape.{NodeHead, head, Shape, BoundName, kind_of, shape, shape_of, site_at, operand_of_bound, operand_at}
 use Rattle.src_meaning.specs.FieldKeys.{field_keys, moved_fields}
 use Rattle.lower_rules.specs.Build as build
-use Rattle.lower_rules.specs.Build.{LoweringFrame, Lowers, act, act_by, is_last, done_by, names, outside, jumps_if}
+use Rattle.lower_rules.specs.Build.{LoweringFrame, Lowers, act, act_by, is_last, done_by, outside, jumps_if}
 use Rattle.lower_rules.specs.Loops.{has_loop, names_loops, names_loops_in, all_name_loops, fields_name_loops, if_any_names, names_its_loops}
 use Rattle.lower_rules.specs.Lower as lower
-use Rattle.lower_rules.specs.Lower.{Evaluates, Reaches, LowersArm, NodeLower, LowerIfAny, no_lower, a_lower}
+use Rattle.lower_rules.specs.Lower.{Evaluates, Reaches, NodeLower, LowerIfAny, no_lower, a_lower}
 
 -- an exit names one of these loops
 abbrev Names : List ℕ → Exit → Type 0
@@ -408,15 +408,7 @@ module _ (f : LoweringFrame) where
     form_in loops (tree.Return value) h s e =
         scope_value_in f loops h s (λ around to. build.jump f h.id Returns (lower.value_of_jump f h (lower.lower_if_any f value) around around.answer))
         (λ around to. jump_in f loops h.id Returns tt _ (jump_value_in f loops h (lower.lower_if_any f value) (if_any_in loops value e) around around.answer))
-    form_in loops tree.Wildcard h s e = value_in f loops h s (λ around own to. build.nothing) (λ around own to. nothing_in f loops)
-    form_in loops (tree.Binding name) h s e = value_in f loops h s (λ around own to. build.nothing) (λ around own to. nothing_in f loops)
-    form_in loops (tree.NumberPattern value) h s e = value_in f loops h s (λ around own to. build.nothing) (λ around own to. nothing_in f loops)
-    form_in loops (tree.TruthPattern value) h s e = value_in f loops h s (λ around own to. build.nothing) (λ around own to. nothing_in f loops)
-    form_in loops (tree.StructPattern fields) h s e = value_in f loops h s (λ around own to. build.nothing) (λ around own to. nothing_in f loops)
-    form_in loops (tree.VariantPattern variant is_test fields) h s e = value_in f loops h s (λ around own to. build.nothing) (λ around own to. nothing_in f loops)
-    form_in loops (tree.TuplePattern parts) h s e = value_in f loops h s (λ around own to. build.nothing) (λ around own to. nothing_in f loops)
-    form_in loops (tree.ArrayPattern elements) h s e = value_in f loops h s (λ around own to. build.nothing) (λ around own to. nothing_in f loops)
-    form_in loops (tree.OrPattern alternatives) h s e = value_in f loops h s (λ around own to. build.nothing) (λ around own to. nothing_in f loops)
+    form_in loops other h s e = value_in f loops h s (λ around own to. build.nothing) (λ around own to. nothing_in f loops)
 
     all_in : (loops : List ℕ) (ns : Nodes) → all_name_loops loops ns ≡ true → AllNodesIn f loops (lower.lower_all f ns)
     all_in loops no_node e = none_in

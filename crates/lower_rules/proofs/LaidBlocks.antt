@@ -1,4 +1,4 @@
--- What is built stands in every graph that has the blocks that are made: what was made stays, edges lead to numbers that were given out, chains that are kept stand, cleanup blocks keep to themselves.
+-- What is built stands in every graph that has the blocks that are made: what was made stays, edges lead to numbers that were given out, blocks that are shared stand, cleanup blocks keep to themselves.
 use Rattle.std.proofs.Common.{◌≡◌, ◌⊎◌, inl, inr, ℕ, zero, suc, ◌+◌, ◌<◌, ◌≤◌, Bool, true, false, List, [], ◌∷◌, ◌++◌, length, map, Some, slice_get, refl, sym, ap, ◌∙◌, subst, arith, length-append, add-one}
 use Rattle.std.proofs.lemmas.Option.{none-some, slice_get_within, same_Some}
 use Rattle.mir_ty.proofs.ListLemmas.{slice_get-last, slice_get-below}
@@ -10,9 +10,9 @@ use Rattle.cfg_graph.specs.declared.statement.Stmt.{Stmt}
 use Rattle.cfg_graph.specs.declared.terminator.Term.{Term}
 use Rattle.cfg_graph.specs.declared.terminator.Unwind.{Unwind}
 use Rattle.cfg_graph.specs.Edges.{is_cleanup, is_cleanup_kind, is_turn_kind, onward, targets, unwind_targets}
-use Rattle.src_meaning.specs.Scopes.{Entry, Scopes, Exit}
-use Rattle.lower_rules.specs.Spots.{CodeTarget, CodePos, JumpWay, Ways, CodeSpot, HasNoEnd, StepAt, TermAt, CleanAt}
-use Rattle.lower_rules.specs.Build.{LoweringFrame, NodeLine, BlockRest, MadeBlock, Building, ending, made, closed, chain_among, way_of, Lowers, exits}
+use Rattle.src_meaning.specs.Scopes.{Scopes, Exit}
+use Rattle.lower_rules.specs.Spots.{CodeTarget, CodePos, JumpWay, Ways, CodeSpot, HasNoEnd, StepAt, TermAt}
+use Rattle.lower_rules.specs.Build.{LoweringFrame, NodeLine, BlockRest, MadeBlock, SharedEnd, Building, ending, made, closed, end_among, end_kind, end_rest, way_of, Lowers, exits}
 
 -- ---- what was made stays
 pub record Grows (s s' : Building) : Type 0 where
@@ -34,7 +34,8 @@ closed_grows kind k s = record {
   keeps = λ n l. slice_get-below s.blocks (Some (made kind (length s.blocks) k) ∷ []) n l;
 }
 
-pub closed_length : (kind : Kind) (k : BlockRest) (s : Building) → length (closed kind k s).blocks ≡ suc (length s.blocks)
+pub closed_length : (kind : Kind) (k : BlockRest) (s : Building) →
+    length (closed kind k s).blocks ≡ suc (length s.blocks)
 closed_length kind k s = length-append s.blocks (Some (made kind (length s.blocks) k) ∷ []) ∙ add-one (length s.blocks)
 
 -- ---- numbers that were given out
@@ -59,14 +60,15 @@ MadeWell n m = (is_turn_kind m.block.kind ≡ false → m.block.rank ≡ n) × A
 
 pub record Ranked (s : Building) : Type 0 where
   pub blocks : (n : ℕ) (m : MadeBlock) → slice_get s.blocks n ≡ Some (Some m) → MadeWell n m
-  pub chains : (es : List Entry) (n : ℕ) → chain_among es s.chains ≡ Some n → Given (length s.blocks) n
+  pub shared : (e : SharedEnd) (i n : ℕ) → end_among e (s.shared i) ≡ Some n → Given (length s.blocks) n
   pub begun : 0 < length s.blocks
 
 -- the edges of what comes next
 abbrev pub LeadsOn : BlockRest → Building → Type 0
 LeadsOn k s = AllGiven (length s.blocks) (targets k.term)
 
-pub push_cases : {A : Type 0} (xs : List A) (x : A) (n : ℕ) (y : A) → slice_get (xs ++ x ∷ []) n ≡ Some y → (slice_get xs n ≡ Some y) ⊎ ((n ≡ length xs) × (x ≡ y))
+pub push_cases : {A : Type 0} (xs : List A) (x : A) (n : ℕ) (y : A) → slice_get (xs ++ x ∷ []) n ≡ Some y →
+    (slice_get xs n ≡ Some y) ⊎ ((n ≡ length xs) × (x ≡ y))
 push_cases [] x zero y e = inr (refl, same_Some x y e)
 push_cases [] x (suc n) y e = absurd (none-some y e)
 push_cases (z ∷ xs) x zero y e = inl e
@@ -75,7 +77,7 @@ push_cases (z ∷ xs) x (suc n) y e = elim (push_cases xs x n y e) [ inl h ↦ i
 pub closed_ranked : (kind : Kind) (k : BlockRest) (s : Building) → Ranked s → LeadsOn k s → Ranked (closed kind k s)
 closed_ranked kind k s h l = record {
   blocks = λ n m e. by_place n m (push_cases s.blocks (Some (made kind (length s.blocks) k)) n (Some m) e);
-  chains = λ es n e. let i = h.chains es n e in let j = closed_length kind k s in (i.0, (let i1 = i.1 in omega arith));
+  shared = λ d i n e. let g = h.shared d i n e in let j = closed_length kind k s in (g.0, (let g1 = g.1 in omega arith));
   begun = let j = closed_length kind k s in omega arith;
 }
   where
@@ -106,11 +108,13 @@ all_second : (P : JumpWay → Type 0) (c : Ways) (xs ys : List Exit) → AllWays
 all_second P c [] ys h = h
 all_second P c (x ∷ xs) ys h = all_second P c xs ys h.1
 
-all_ways_more : (n m : ℕ) → n ≤ m → (c : Ways) (xs : List Exit) → AllWays (BlockGiven n) c xs → AllWays (BlockGiven m) c xs
+all_ways_more : (n m : ℕ) → n ≤ m → (c : Ways) (xs : List Exit) → AllWays (BlockGiven n) c xs →
+    AllWays (BlockGiven m) c xs
 all_ways_more n m l c [] h = tt
 all_ways_more n m l c (x ∷ xs) h = ((h.0.0, (let i = h.0.1 in omega arith)), all_ways_more n m l c xs h.1)
 
-pub ways_more : (n m : ℕ) → n ≤ m → (c : Ways) (xs : List Exit) → JumpWays (BlockGiven n) c xs → JumpWays (BlockGiven m) c xs
+pub ways_more : (n m : ℕ) → n ≤ m → (c : Ways) (xs : List Exit) → JumpWays (BlockGiven n) c xs →
+    JumpWays (BlockGiven m) c xs
 ways_more n m l c xs h = ((h.0.0, (let i = h.0.1 in omega arith)), all_ways_more n m l c xs h.1)
 
 pub ways_first : (P : JumpWay → Type 0) (c : Ways) (xs ys : List Exit) → JumpWays P c (xs ++ ys) → JumpWays P c xs
@@ -133,15 +137,19 @@ module _ (t : CodeTarget) where
 
   abbrev LinesAt : Block → ℕ → ℕ → List NodeLine → Term → ℕ → Type 0
   LinesAt block n l [] term node = (l ≡ length block.stmts) × (block.term ≡ term) × (t.node n l ≡ node)
-  LinesAt block n l (x ∷ xs) term node = (slice_get block.stmts l ≡ Some x.stmt) × (t.node n l ≡ x.node) × LinesAt block n (suc l) xs term node
+  LinesAt block n l (x ∷ xs) term node =
+      (slice_get block.stmts l ≡ Some x.stmt) × (t.node n l ≡ x.node) × LinesAt block n (suc l) xs term node
 
   -- the rest of a block stands from a place on
   abbrev pub Stands : BlockRest → CodePos → Type 0
-  Stands k b = (block : Block) × (slice_get t.body.blocks b.0 ≡ Some block) × LinesAt block b.0 b.1 k.lines k.term k.node
+  Stands k b =
+      (block : Block) × (slice_get t.body.blocks b.0 ≡ Some block) × LinesAt block b.0 b.1 k.lines k.term k.node
 
-  lines_stand : (pre : List Stmt) (block : Block) (n : ℕ) (xs : List NodeLine) (node : ℕ) → block.stmts ≡ pre ++ map (λ l. l.stmt) xs →
+  lines_stand : (pre : List Stmt) (block : Block) (n : ℕ) (xs : List NodeLine) (node : ℕ) →
+      block.stmts ≡ pre ++ map (λ l. l.stmt) xs →
       NodesAt n (length pre) (map (λ l. l.node) xs ++ node ∷ []) → LinesAt block n (length pre) xs block.term node
-  lines_stand pre block n [] node e h = (sym (ap length e ∙ length-append pre [] ∙ (let k : length pre + 0 ≡ length pre = omega arith in k)), refl, h.0)
+  lines_stand pre block n [] node e h =
+      (sym (ap length e ∙ length-append pre [] ∙ (let k : length pre + 0 ≡ length pre = omega arith in k)), refl, h.0)
   lines_stand pre block n (x ∷ xs) node e h = (
     ap (λ z. slice_get z (length pre)) e ∙ seam pre,
     h.0,
@@ -158,17 +166,22 @@ module _ (t : CodeTarget) where
       with_one [] = refl
       with_one (y ∷ pre) = ap (λ z. y ∷ z) (with_one pre)
 
-  pub made_stands : (kind : Kind) (rank : ℕ) (k : BlockRest) (n : ℕ) (s : Building) → Later s → slice_get s.blocks n ≡ Some (Some (made kind rank k)) → Stands k (n, 0)
+  pub made_stands : (kind : Kind) (rank : ℕ) (k : BlockRest) (n : ℕ) (s : Building) → Later s →
+      slice_get s.blocks n ≡ Some (Some (made kind rank k)) → Stands k (n, 0)
   made_stands kind rank k n s later e =
       let h = later n (made kind rank k) e in ((made kind rank k).block, h.0, lines_stand [] (made kind rank k).block n k.lines k.node refl h.1)
 
-  pub closed_at : (kind : Kind) (k : BlockRest) (s : Building) → slice_get (closed kind k s).blocks (length s.blocks) ≡ Some (Some (made kind (length s.blocks) k))
+  pub closed_at : (kind : Kind) (k : BlockRest) (s : Building) →
+      slice_get (closed kind k s).blocks (length s.blocks) ≡ Some (Some (made kind (length s.blocks) k))
   closed_at kind k s = slice_get-last s.blocks (Some (made kind (length s.blocks) k))
 
-  pub closed_stands : (kind : Kind) (k : BlockRest) (s : Building) → Later (closed kind k s) → Stands k (length s.blocks, 0)
-  closed_stands kind k s later = made_stands kind (length s.blocks) k (length s.blocks) (closed kind k s) later (closed_at kind k s)
+  pub closed_stands : (kind : Kind) (k : BlockRest) (s : Building) → Later (closed kind k s) →
+      Stands k (length s.blocks, 0)
+  closed_stands kind k s later =
+      made_stands kind (length s.blocks) k (length s.blocks) (closed kind k s) later (closed_at kind k s)
 
-  pub step_stands : (kind : Kind) (k : BlockRest) (s : Building) → is_turn_kind kind ≡ false → Later (closed kind k s) → StepAt t (length s.blocks)
+  pub step_stands : (kind : Kind) (k : BlockRest) (s : Building) → is_turn_kind kind ≡ false →
+      Later (closed kind k s) → StepAt t (length s.blocks)
   step_stands kind k s e later = ((made kind (length s.blocks) k).block, (later (length s.blocks) (made kind (length s.blocks) k) (closed_at kind k s)).0, e)
 
   pub plain_stands : (k : BlockRest) (s : Building) → Later (closed Kind.Plain k s) → StepAt t (length s.blocks)
@@ -181,12 +194,12 @@ module _ (t : CodeTarget) where
   pub ends_with : (term : Term) (node : ℕ) (b : CodePos) → Stands (ending term node) b → TermAt t term b
   ends_with term node b st = (st.0, st.1, st.2.0, st.2.1)
 
-  -- ---- the chains that are kept stand
-  abbrev pub ChainAt : List Entry → ℕ → Type 0
-  ChainAt es n = StepAt t n × CleanAt t es (n, 0)
+  -- ---- the blocks that are shared stand
+  abbrev pub SharedAt : SharedEnd → ℕ → Type 0
+  SharedAt e n = StepAt t n × Stands (end_rest f e) (n, 0)
 
-  abbrev pub ChainsStand : Building → Type 0
-  ChainsStand s = (es : List Entry) (n : ℕ) → chain_among es s.chains ≡ Some n → ChainAt es n
+  abbrev pub SharedStand : Building → Type 0
+  SharedStand s = (e : SharedEnd) (i n : ℕ) → end_among e (s.shared i) ≡ Some n → SharedAt e n
 
   -- ---- cleanup blocks keep to themselves
   -- a block stands there, which is a cleanup block or is none
@@ -206,13 +219,15 @@ module _ (t : CodeTarget) where
 
   -- a block whose first statement stores into a place, for a node
   abbrev pub StoresFirst : graph_place.Place → (node : ℕ) → ℕ → Type 0
-  StoresFirst place node n = (kind : Kind) × (rank : ℕ) × (from : graph_operand.Operand) × (rest : List Stmt) × (term : Term)
+  StoresFirst place node n =
+      (kind : Kind) × (rank : ℕ) × (from : graph_operand.Operand) × (rest : List Stmt) × (term : Term)
       × (slice_get t.body.blocks n ≡ Some (record { kind = kind; rank = rank; stmts = Stmt.Put place from ∷ rest; term = term }))
       × (t.node n 0 ≡ node)
 
   -- what is dropped for a node is a whole local, or is stored into at once for the same node
   abbrev pub DropsWell : Term → (node : ℕ) → Type 0
-  DropsWell (Term.DropAt place n (Unwind.Block m)) node = (place.steps ≡ []) ⊎ (StoresFirst place node n × StoresFirst place node m)
+  DropsWell (Term.DropAt place n (Unwind.Block m)) node =
+      (place.steps ≡ []) ⊎ (StoresFirst place node n × StoresFirst place node m)
   DropsWell (Term.DropAt place n unwind) node = place.steps ≡ []
   DropsWell _ node = Unit {0}
 
@@ -253,7 +268,8 @@ module _ (t : CodeTarget) where
   a_node_each [] = refl
   a_node_each (line ∷ lines) = ap suc (a_node_each lines)
 
-  pub made_well : (kind : Kind) (rank : ℕ) (k : BlockRest) → RestEnds (is_cleanup_kind kind) k → BlockWell (made kind rank k)
+  pub made_well : (kind : Kind) (rank : ℕ) (k : BlockRest) → RestEnds (is_cleanup_kind kind) k →
+      BlockWell (made kind rank k)
   made_well kind rank k h = (map (λ l. l.node) k.lines, k.node, refl, a_node_each k.lines, h.0, h.1)
 
   abbrev pub RestWell : BlockRest → Type 0
@@ -261,25 +277,29 @@ module _ (t : CodeTarget) where
 
   pub record Tidy (s : Building) : Type 0 where
     pub blocks : (n : ℕ) (m : MadeBlock) → slice_get s.blocks n ≡ Some (Some m) → BlockWell m
-    pub chains : (es : List Entry) (n : ℕ) → chain_among es s.chains ≡ Some n → KindAt true n
+    pub shared : (e : SharedEnd) (i n : ℕ) → end_among e (s.shared i) ≡ Some n →
+        KindAt (is_cleanup_kind (end_kind f e)) n
 
   -- all that is made is tidy, and so is what comes next
   abbrev pub TidyAfter : BlockRest × Building → Type 0
   TidyAfter r = Tidy r.1 × RestWell r.0
 
-  pub kind_stands : (kind : Kind) (k : BlockRest) (s : Building) → Later (closed kind k s) → KindAt (is_cleanup_kind kind) (length s.blocks)
+  pub kind_stands : (kind : Kind) (k : BlockRest) (s : Building) → Later (closed kind k s) →
+      KindAt (is_cleanup_kind kind) (length s.blocks)
   kind_stands kind k s later =
       ((made kind (length s.blocks) k).block, (later (length s.blocks) (made kind (length s.blocks) k) (closed_at kind k s)).0, refl)
 
-  pub closed_tidy : (kind : Kind) (k : BlockRest) (s : Building) → Tidy s → RestEnds (is_cleanup_kind kind) k → Tidy (closed kind k s)
+  pub closed_tidy : (kind : Kind) (k : BlockRest) (s : Building) → Tidy s → RestEnds (is_cleanup_kind kind) k →
+      Tidy (closed kind k s)
   closed_tidy kind k s h l = record {
     blocks = λ n m e. by_place n m (push_cases s.blocks (Some (made kind (length s.blocks) k)) n (Some m) e);
-    chains = h.chains;
+    shared = h.shared;
   }
     where
       by_place : (n : ℕ) (m : MadeBlock) → (slice_get s.blocks n ≡ Some (Some m)) ⊎ ((n ≡ length s.blocks) × (Some (made kind (length s.blocks) k) ≡ Some m)) → BlockWell m
       by_place n m (inl e) = h.blocks n m e
-      by_place n m (inr e) = subst BlockWell (same_Some (made kind (length s.blocks) k) m e.1) (made_well kind (length s.blocks) k l)
+      by_place n m (inr e) =
+          subst BlockWell (same_Some (made kind (length s.blocks) k) m e.1) (made_well kind (length s.blocks) k l)
 
   -- ---- what is built
   abbrev pub CodeEnds : Bool → Lowers → (Ways → CodeSpot) → Ways → Scopes → BlockRest → CodePos → Type 0
@@ -287,14 +307,17 @@ module _ (t : CodeTarget) where
   CodeEnds false P spot c S k b = HasNoEnd (spot c) S b
 
   abbrev pub CodeStands : Bool → Lowers → (Ways → CodeSpot) → Ways → Scopes → BlockRest → BlockRest × Building → Type 0
-  CodeStands has_end P spot c S k r = ChainsStand r.1 × ((b : CodePos) → Stands r.0 b → CodeEnds has_end P spot c S k b)
+  CodeStands has_end P spot c S k r = SharedStand r.1 × ((b : CodePos) → Stands r.0 b → CodeEnds has_end P spot c S k b)
 
   -- the code of what is lowered stands, whatever is built before it; each edge leads to a number that was given out, and to a
   -- block of the kind that it may lead to
   pub record Lowered (P : Lowers) (spot : Ways → CodeSpot) : Type 0 where
     pub grows : (c : Ways) (S : Scopes) (k : BlockRest) (s : Building) → Grows s (P.build c S k s).1
-    pub holds : (c : Ways) (S : Scopes) (k : BlockRest) (s : Building) → JumpWays IsUsed c P.jumps → Later (P.build c S k s).1 → ChainsStand s →
+    pub holds : (c : Ways) (S : Scopes) (k : BlockRest) (s : Building) → JumpWays IsUsed c P.jumps →
+        Later (P.build c S k s).1 → SharedStand s →
         CodeStands P.has_end P spot c S k (P.build c S k s)
-    pub ranks : (c : Ways) (S : Scopes) (k : BlockRest) (s : Building) → JumpWays (BlockGiven (length s.blocks)) c P.jumps → Ranked s → LeadsOn k s →
+    pub ranks : (c : Ways) (S : Scopes) (k : BlockRest) (s : Building) →
+        JumpWays (BlockGiven (length s.blocks)) c P.jumps → Ranked s → LeadsOn k s →
         Ranked (P.build c S k s).1 × LeadsOn (P.build c S k s).0 (P.build c S k s).1
-    pub tidies : (c : Ways) (S : Scopes) (k : BlockRest) (s : Building) → JumpWays PlainWay c P.jumps → Later (P.build c S k s).1 → Tidy s → RestWell k → TidyAfter (P.build c S k s)
+    pub tidies : (c : Ways) (S : Scopes) (k : BlockRest) (s : Building) → JumpWays PlainWay c P.jumps →
+        Later (P.build c S k s).1 → Tidy s → RestWell k → TidyAfter (P.build c S k s)

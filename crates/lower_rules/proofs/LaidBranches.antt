@@ -15,7 +15,7 @@ use Rattle.lower_rules.specs.Rules.{taken, StoresAt, ReplacesAt, BranchesAt, Loo
 use Rattle.lower_rules.specs.Spots.{CodeTarget, CodePos, JumpWay, Ways, loop_ways, ways_of, ways_in_loop, CodeSpot, panic_drops, EntersAt, TermAt, Leads, stays, goes, Joins, by_statement}
 use Rattle.lower_rules.specs.Build as build
 use Rattle.lower_rules.specs.Build.{BlockRest, MadeBlock, Building, ending, with_line, made, closed, reserved, filled, is_left_by, outside, Lowers, joined, after_either, branches, with_exit, looped, place_of, chain, act, put_into, stores, replaces}
-use Rattle.lower_rules.proofs.LaidBlocks.{AllWays, BlockGiven, BlockWell, ChainsStand, CodeEnds, Given, Grows, IsUsed, JumpWays, KindAt, Later, LeadsOn, Lowered, MadeWell, PlainWay, Ranked, RestEnds, RestWell, Stands, StoresFirst, Tidy, TidyAfter, closed_at, closed_grows, closed_length, closed_ranked, closed_stands, closed_tidy, ends_with, f, given_more, grows_not, grows_on, kind_stands, later_before, made_stands, plain_stands, push_cases, step_stands, ways_first, ways_more, ways_second, made_well}
+use Rattle.lower_rules.proofs.LaidBlocks.{AllWays, BlockGiven, BlockWell, SharedStand, CodeEnds, Given, Grows, IsUsed, JumpWays, KindAt, Later, LeadsOn, Lowered, MadeWell, PlainWay, Ranked, RestEnds, RestWell, Stands, StoresFirst, Tidy, TidyAfter, closed_at, closed_grows, closed_length, closed_ranked, closed_stands, closed_tidy, ends_with, f, given_more, grows_not, grows_on, kind_stands, later_before, made_stands, plain_stands, push_cases, step_stands, ways_first, ways_more, ways_second, made_well}
 use Rattle.lower_rules.proofs.LaidEffects.{act_lowered, chain_grows, chain_made, chain_ranked, chain_tidy, changed_lowered, operand_same, site_same}
 use Rattle.lower_rules.proofs.LaidScopes.{TestMade, given_on}
 
@@ -26,9 +26,9 @@ module _ (t : CodeTarget) where
   joined_grows true node k s = closed_grows Kind.Plain k s
   joined_grows false node k s = grows_not s
 
-  pub joined_chains : (x : Bool) (node : ℕ) (k : BlockRest) (s : Building) → ChainsStand t s → ChainsStand t (joined x node k s).1
-  joined_chains true node k s h = h
-  joined_chains false node k s h = h
+  pub joined_shared : (x : Bool) (node : ℕ) (k : BlockRest) (s : Building) → SharedStand t s → SharedStand t (joined x node k s).1
+  joined_shared true node k s h = h
+  joined_shared false node k s h = h
 
   pub joined_ranked : (x : Bool) (node : ℕ) (k : BlockRest) (s : Building) → Ranked s → LeadsOn k s → Ranked (joined x node k s).1 × LeadsOn (joined x node k s).0 (joined x node k s).1
   joined_ranked true node k s h l = let j = closed_length Kind.Plain k s in (closed_ranked Kind.Plain k s h l, ((h.begun, omega arith), tt))
@@ -113,7 +113,7 @@ module _ (t : CodeTarget) where
           let l3 = later_before t (no_made c S k s) (yes_code c S k s).1 (lp.grows c S (join k s).0 (no_made c S k s)) l4 in
           let l2 = later_before t (no_code c S k s).1 (no_made c S k s) (closed_grows Kind.Plain (no_code c S k s).0 (no_code c S k s).1) l3 in
           let l1 = later_before t (join k s).1 (no_code c S k s).1 (lq.grows c S (join k s).0 (join k s).1) l2 in
-          let no = lq.holds c S (join k s).0 (join k s).1 (ways_second IsUsed c P.jumps Q.jumps u) l2 (joined_chains z node k s chains) in
+          let no = lq.holds c S (join k s).0 (join k s).1 (ways_second IsUsed c P.jumps Q.jumps u) l2 (joined_shared z node k s chains) in
           let yes = lp.holds c S (join k s).0 (no_made c S k s) (ways_first IsUsed c P.jumps Q.jumps u) l4 no.0 in
           let it = one.1 yes.0 later (plain_stands t (yes_code c S k s).0 (yes_code c S k s).1 l5) (plain_stands t (no_code c S k s).0 (no_code c S k s).1 l3) in
           let yes_ends = yes.1 (yes_at c S k s, 0) (closed_stands t Kind.Plain (yes_code c S k s).0 (yes_code c S k s).1 l5) in
@@ -196,7 +196,7 @@ module _ (t : CodeTarget) where
   pub reserved_ranked : (s : Building) → Ranked s → Ranked (reserved s)
   reserved_ranked s h = record {
     blocks = λ n m e. by_place n m (push_cases s.blocks None n (Some m) e);
-    chains = λ es n e. let i = h.chains es n e in let j = reserved_length s in (i.0, (let i1 = i.1 in omega arith));
+    shared = λ d i n e. let g = h.shared d i n e in let j = reserved_length s in (g.0, (let g1 = g.1 in omega arith));
     begun = let j = reserved_length s in omega arith;
   }
     where
@@ -205,7 +205,7 @@ module _ (t : CodeTarget) where
       by_place n m (inr e) = absurd (none-some m e.1)
 
   pub reserved_tidy : (s : Building) → Tidy t s → Tidy t (reserved s)
-  reserved_tidy s h = record { blocks = λ n m e. by_place n m (push_cases s.blocks None n (Some m) e); chains = h.chains }
+  reserved_tidy s h = record { blocks = λ n m e. by_place n m (push_cases s.blocks None n (Some m) e); shared = h.shared }
     where
       by_place : (n : ℕ) (m : MadeBlock) → (slice_get s.blocks n ≡ Some (Some m)) ⊎ ((n ≡ length s.blocks) × (None ≡ Some m)) → BlockWell t m
       by_place n m (inl e) = h.blocks n m e
@@ -235,7 +235,7 @@ module _ (t : CodeTarget) where
   turn_ranked : (n : ℕ) (k : BlockRest) (s : Building) → Ranked s → LeadsOn k s → Ranked (filled Kind.Turn n k s)
   turn_ranked n k s h l = record {
     blocks = λ i m e. by_place i m (set_cases s.blocks n i (Some (made Kind.Turn (length s.blocks) k)) (Some m) e);
-    chains = λ es i e. let g = h.chains es i e in let j = set_length s.blocks n (Some (made Kind.Turn (length s.blocks) k)) in (g.0, (let g1 = g.1 in omega arith));
+    shared = λ d l i e. let g = h.shared d l i e in let j = set_length s.blocks n (Some (made Kind.Turn (length s.blocks) k)) in (g.0, (let g1 = g.1 in omega arith));
     begun = let j = set_length s.blocks n (Some (made Kind.Turn (length s.blocks) k)) in let b = h.begun in omega arith;
   }
     where
@@ -245,7 +245,7 @@ module _ (t : CodeTarget) where
           subst (MadeWell i) (same_Some (made Kind.Turn (length s.blocks) k) m e.1) ((λ x. absurd (let never : true ≡ false = x in cc)), l)
 
   pub filled_tidy : (kind : Kind) (n : ℕ) (k : BlockRest) (s : Building) → Tidy t s → RestEnds t (is_cleanup_kind kind) k → Tidy t (filled kind n k s)
-  filled_tidy kind n k s h l = record { blocks = λ i m e. by_place i m (set_cases s.blocks n i (Some (made kind (length s.blocks) k)) (Some m) e); chains = h.chains }
+  filled_tidy kind n k s h l = record { blocks = λ i m e. by_place i m (set_cases s.blocks n i (Some (made kind (length s.blocks) k)) (Some m) e); shared = h.shared }
     where
       by_place : (i : ℕ) (m : MadeBlock) → (slice_get s.blocks i ≡ Some (Some m)) ⊎ ((i ≡ n) × (Some (made kind (length s.blocks) k) ≡ Some m)) → BlockWell t m
       by_place i m (inl e) = h.blocks i m e
@@ -285,9 +285,9 @@ module _ (t : CodeTarget) where
   exit_grows true k s = closed_grows Kind.Plain k s
   exit_grows false k s = grows_not s
 
-  exit_chains : (x : Bool) (k : BlockRest) (s : Building) → ChainsStand t s → ChainsStand t (with_exit x k s)
-  exit_chains true k s h = h
-  exit_chains false k s h = h
+  exit_shared : (x : Bool) (k : BlockRest) (s : Building) → SharedStand t s → SharedStand t (with_exit x k s)
+  exit_shared true k s h = h
+  exit_shared false k s h = h
 
   exit_ranked : (x : Bool) (k : BlockRest) (s : Building) → Ranked s → LeadsOn k s → Ranked (with_exit x k s)
   exit_ranked true k s h l = closed_ranked Kind.Plain k s h l
@@ -317,7 +317,7 @@ module _ (t : CodeTarget) where
     begin_at k s = length (begun_with k s).blocks
 
     abbrev again : BlockRest → Building → BlockRest
-    again k s = ending (Term.Goto (begin_at k s)) id
+    again k s = ending (Term.Goto (begin_at k s)) 0
 
     abbrev ways_in : Ways → Scopes → BlockRest → Building → Ways
     ways_in c S k s = ways_in_loop id (length S) (length s.blocks) (begin_at k s) left c
@@ -350,7 +350,7 @@ module _ (t : CodeTarget) where
     turn_ends : (x : Bool) (c : Ways) (S : Scopes) (k : BlockRest) (s : Building) (b : CodePos) → CodeEnds t x turn sp (ways_in c S k s) S (again k s) (begin_at k s, 0) → TermAt t (Term.Goto (begin_at k s)) b →
         (e : CodePos) × sp (ways_in c S k s) S (begin_at k s, 0) S e × TermAt t (Term.Goto (begin_at k s)) e
     turn_ends true c S k s b h goes_back =
-        (h.0, subst (λ z. sp (ways_in c S k s) S (begin_at k s, 0) z h.0) (back S) h.2, ends_with t (Term.Goto (begin_at k s)) id h.0 h.1)
+        (h.0, subst (λ z. sp (ways_in c S k s) S (begin_at k s, 0) z h.0) (back S) h.2, ends_with t (Term.Goto (begin_at k s)) 0 h.0 h.1)
     turn_ends false c S k s b h goes_back = (b, h S b, goes_back)
 
     pub looped_lowered : (Lowered t) (looped id turn) (λ c. LoopAt t id sp c)
@@ -364,10 +364,10 @@ module _ (t : CodeTarget) where
           let l1 = later_before t (reserved (begun_with k s)) r.1 (code_grows c S k s) l2 in
           let l0 = later_before t (begun_with k s) (reserved (begun_with k s)) (reserved_grows (begun_with k s)) l1 in
           let turn_at = filled_stands Kind.Turn (begin_at k s) r.0 r.1 (begin_free c S k s) later in
-          let it = lt.holds (ways_in c S k s) S (again k s) (reserved (begun_with k s)) (used_in c S k s u) l2 (exit_chains left k s chains) in (
+          let it = lt.holds (ways_in c S k s) S (again k s) (reserved (begun_with k s)) (used_in c S k s u) l2 (exit_shared left k s chains) in (
             it.0,
             λ b st.
-                let goes_back = ends_with t (Term.Goto (begin_at k s)) id b st in
+                let goes_back = ends_with t (Term.Goto (begin_at k s)) 0 b st in
                 let e = turn_ends turn.has_end c S k s b (it.1 (begin_at k s, 0) turn_at.1) goes_back in
                 loop_ends left refl c S k s e.0 b l0
                 (λ S' b' onward. (begin_at k s, length s.blocks, left, e.0, goes_back, ((made Kind.Turn (length r.1.blocks) r.0).block, turn_at.0, refl), e.1, e.2, onward)),

@@ -6,7 +6,7 @@ use Rattle.cfg_graph.specs.declared.graph.Kind.{Kind}
 use Rattle.cfg_graph.specs.declared.statement.Stmt.{Stmt}
 use Rattle.cfg_graph.specs.declared.terminator.Term.{Term}
 use Rattle.cfg_graph.specs.declared.terminator.Unwind.{Unwind}
-use Rattle.cfg_graph.specs.Edges.{targets, unwind_block}
+use Rattle.cfg_graph.specs.Edges.{is_cleanup_kind, is_turn_kind, targets, unwind_block}
 use Rattle.cfg_graph.specs.Places.{named_step}
 use Rattle.cfg_meaning.specs.Actions as actions
 use Rattle.store_model.specs.Effects as effects
@@ -14,10 +14,11 @@ use Rattle.store_model.specs.Effects.{EffectSite, Action}
 use Rattle.store_model.specs.Places.Place.{Step, ToPart, ToField, ToContent, ToElement, whole_local}
 use Rattle.src_meaning.specs.Locals.Effects.{step_at, site_at, operand_at, action_at}
 use Rattle.src_meaning.specs.Scopes.{Entry, Scopes, entry_site}
-use Rattle.lower_rules.specs.Spots.{CodeTarget, CodePos, Ways, CodeSpot, Then, Changes, After, Nothing, BackIn, action_of_term, panic_drops, CleanAt, Cleans, IsLast, ActionTermAt, Acts, by_statement, by_terminator, by_last_statement, by_last_terminator}
+use Rattle.lower_rules.specs.Spots.{CodeTarget, CodePos, Ways, CodeSpot, Then, Changes, After, Nothing, BackIn, action_of_term, panic_drops, StepAt, CleanAt, Cleans, IsLast, ActionTermAt, Acts, by_statement, by_terminator, by_last_statement, by_last_terminator}
 use Rattle.lower_rules.specs.Build as build
-use Rattle.lower_rules.specs.Build.{BlockRest, Building, ending, made, closed, same_entries, chain_among, kept_chain, chain_or, jumps_if, Lowers, ByStmt, ByTerm, change, nothing, from_changed, back_in, then_build, then_lower, step_of, place_of, chain, unwind_to, unwinding, is_last, act_by, act}
-use Rattle.lower_rules.proofs.LaidBlocks.{AllGiven, AllKind, BlockGiven, ChainAt, ChainsStand, CodeEnds, CodeStands, Given, Grows, IsUsed, JumpWays, KindAt, Later, LeadsOn, LeadsWell, Lowered, NoFree, PlainWay, Ranked, RestEnds, RestWell, Stands, Tidy, TidyAfter, closed_grows, closed_length, closed_ranked, closed_stands, closed_tidy, ends_with, f, grows_not, grows_on, kind_stands, later_before, plain_stands, step_stands, ways_first, ways_more, ways_second}
+use Rattle.lower_rules.specs.Build.{BlockRest, SharedEnd, Resumes, GoesTo, DropsThen, Building, ending, made, closed, same_end, end_among, end_kind, end_rest, listed_at, with_shared, shared_or, share, jumps_if, Lowers, ByStmt, ByTerm, change, nothing, from_changed, back_in, then_build, then_lower, step_of, place_of, chain, unwind_to, unwinding, is_last, act_by, act}
+use Rattle.lower_rules.proofs.SharedEnds.{ends_same}
+use Rattle.lower_rules.proofs.LaidBlocks.{AllGiven, AllKind, BlockGiven, SharedAt, SharedStand, CodeEnds, CodeStands, Given, Grows, IsUsed, JumpWays, KindAt, Later, LeadsOn, LeadsWell, Lowered, NoFree, PlainWay, Ranked, RestEnds, RestWell, Stands, Tidy, TidyAfter, closed_grows, closed_length, closed_ranked, closed_stands, closed_tidy, ends_with, f, grows_not, grows_on, kind_stands, later_before, plain_stands, step_stands, ways_first, ways_more, ways_second}
 
 module _ (t : CodeTarget) where
   -- ---- one after the other
@@ -34,8 +35,8 @@ module _ (t : CodeTarget) where
     then_code x false c S k k1 b first second = λ S' b'. inr (P.after S, first.0, first.2, second first.0 first.1 S' b')
 
     then_holds : (x : Bool) (c : Ways) (S : Scopes) →
-        ((k : BlockRest) (s : Building) → Later t (P.build c S k s).1 → ChainsStand t s → CodeStands t x P sp c S k (P.build c S k s)) → JumpWays IsUsed c (jumps_if x Q.jumps) →
-        (k : BlockRest) (s : Building) → Later t (then_build x P Q c S k s).1 → ChainsStand t s →
+        ((k : BlockRest) (s : Building) → Later t (P.build c S k s).1 → SharedStand t s → CodeStands t x P sp c S k (P.build c S k s)) → JumpWays IsUsed c (jumps_if x Q.jumps) →
+        (k : BlockRest) (s : Building) → Later t (then_build x P Q c S k s).1 → SharedStand t s →
         CodeStands t (x && Q.has_end) (then_lower P Q) (λ c. Then (sp c) (sq c)) c S k (then_build x P Q c S k s)
     then_holds true c S hp u k s later chains =
         let r = Q.build c (P.after S) k s in
@@ -166,145 +167,121 @@ module _ (t : CodeTarget) where
   operands_same n [] e = refl
   operands_same n (o ∷ os) e = λ i. operand_same n o e.0 i ∷ operands_same n os e.1 i
 
-  -- ---- chains
-  keys_clean : (es ds : List Entry) → same_entries es ds ≡ true → (b : CodePos) → CleanAt t ds b → CleanAt t es b
-  keys_clean [] [] e b h = h
-  keys_clean [] (d ∷ ds) e b h = absurd (let never : false ≡ true = e in cc)
-  keys_clean (x ∷ es) [] e b h = absurd (let never : false ≡ true = e in cc)
-  keys_clean (x ∷ es) (d ∷ ds) e b h =
-      let both = and_true (x.key == d.key) (same_entries es ds) e in (
-        h.0,
-        h.1,
-        h.2,
-        h.3 ∙ ap (λ k. site_at t.local_of (record { node = k; place = whole_local k })) (sym (eqb-true x.key d.key both.0)),
-        h.4,
-        keys_clean es ds both.1 (h.1, 0) h.5,
-      )
+  -- ---- blocks that are shared
+  -- what holds of all shared blocks and of a new one
+  with_new : (P : SharedEnd → ℕ → Type 0) (e : SharedEnd) (n : ℕ) (s : Building) → P e n → ((d : SharedEnd) (i m : ℕ) → end_among d (s.shared i) ≡ Some m → P d m) →
+      (d : SharedEnd) (i m : ℕ) → end_among d ((with_shared e n s).shared i) ≡ Some m → P d m
+  with_new P e n s new old d i m = by_place (i == listed_at e)
     where
-      and_true : (a b : Bool) → (a && b) ≡ true → (a ≡ true) × (b ≡ true)
-      and_true true b e = (refl, e)
-      and_true false b e = absurd (let never : false ≡ true = e in cc)
+      by_end : (x : Bool) → same_end d e ≡ x → (if x then Some n else end_among d (s.shared i)) ≡ Some m → P d m
+      by_end true same h = subst (λ j. P d j) (same_Some n m h) (subst (λ z. P z n) (sym (ends_same d e same)) new)
+      by_end false same h = old d i m h
 
-  kept_grows : (es : List Entry) (k : BlockRest) (s : Building) → Grows s (kept_chain es k s).1
-  kept_grows es k s = let g = closed_grows Kind.Cleanup k s in record { longer = g.longer; keeps = g.keeps }
+      by_place : (x : Bool) → end_among d (if x then (e, n) ∷ s.shared i else s.shared i) ≡ Some m → P d m
+      by_place true h = by_end (same_end d e) refl h
+      by_place false h = old d i m h
 
-  -- a new chain is kept, and those before it stand
-  kept_stand : (es : List Entry) (k : BlockRest) (s : Building) → ChainsStand t s → (Stands t k (length s.blocks, 0) → CleanAt t es (length s.blocks, 0)) → Later t (kept_chain es k s).1 →
-      ChainsStand t (kept_chain es k s).1 × ChainAt t es (kept_chain es k s).0
-  kept_stand es k s h clean later = (chains, here)
+  no_turn : (e : SharedEnd) → is_turn_kind (end_kind (f t) e) ≡ false
+  no_turn Resumes = refl
+  no_turn (GoesTo block) = refl
+  no_turn (DropsThen key onward (Unwind.Block n)) = refl
+  no_turn (DropsThen key onward Unwind.Resume) = refl
+  no_turn (DropsThen key onward Unwind.Abort) = refl
+
+  abbrev new_shared : SharedEnd → Building → Building
+  new_shared e s = closed (end_kind (f t) e) (end_rest (f t) e) s
+
+  pub share_grows : (e : SharedEnd) (s : Building) → Grows s (share (f t) e s).1
+  share_grows e s = by_known (end_among e (s.shared (listed_at e)))
     where
-      here : (ChainAt t) es (length s.blocks)
-      here = (step_stands t Kind.Cleanup k s refl later, clean (closed_stands t Kind.Cleanup k s later))
+      by_known : (o : Option ℕ) → Grows s (shared_or (f t) o e s).1
+      by_known (Some n) = grows_not s
+      by_known None = let g = closed_grows (end_kind (f t) e) (end_rest (f t) e) s in record { longer = g.longer; keeps = g.keeps }
 
-      by_entries : (x : Bool) (ds : List Entry) (n : ℕ) → same_entries ds es ≡ x → (if x then Some (length s.blocks) else chain_among ds s.chains) ≡ Some n → ChainAt t ds n
-      by_entries true ds n same e =
-          subst (λ i. ChainAt t ds i) (same_Some (length s.blocks) n e) (here.0, keys_clean ds es same (length s.blocks, 0) here.1)
-      by_entries false ds n same e = h ds n e
-
-      chains : (ChainsStand t) (kept_chain es k s).1
-      chains ds n e = by_entries (same_entries ds es) ds n refl e
-
-  kept_ranked : (es : List Entry) (k : BlockRest) (s : Building) → Ranked s → LeadsOn k s → Ranked (kept_chain es k s).1 × Given (length (kept_chain es k s).1.blocks) (kept_chain es k s).0
-  kept_ranked es k s h l =
-      let c = closed_ranked Kind.Cleanup k s h l in
-      let j = closed_length Kind.Cleanup k s in
-      let g : Given (length (closed Kind.Cleanup k s).blocks) (length s.blocks) = (h.begun, omega arith) in
-      (record { blocks = c.blocks; chains = λ ds n e. by_entries g (same_entries ds es) ds n e; begun = c.begun }, g)
+  pub share_made : (e : SharedEnd) (s : Building) → SharedStand t s → Later t (share (f t) e s).1 → SharedStand t (share (f t) e s).1 × SharedAt t e (share (f t) e s).0
+  share_made e s h = by_known (end_among e (s.shared (listed_at e))) refl
     where
-      by_entries : Given (length (closed Kind.Cleanup k s).blocks) (length s.blocks) → (x : Bool) (ds : List Entry) (n : ℕ) → (if x then Some (length s.blocks) else chain_among ds s.chains) ≡ Some n →
-          Given (length (closed Kind.Cleanup k s).blocks) n
-      by_entries g true ds n e = subst (Given (length (closed Kind.Cleanup k s).blocks)) (same_Some (length s.blocks) n e) g
-      by_entries g false ds n e = let i = h.chains ds n e in let j = closed_length Kind.Cleanup k s in (i.0, (let i1 = i.1 in omega arith))
+      by_known : (o : Option ℕ) → end_among e (s.shared (listed_at e)) ≡ o → Later t (shared_or (f t) o e s).1 → SharedStand t (shared_or (f t) o e s).1 × SharedAt t e (shared_or (f t) o e s).0
+      by_known (Some n) known later = (h, h e (listed_at e) n known)
+      by_known None known later =
+          let here : SharedAt t e (length s.blocks) = (step_stands t (end_kind (f t) e) (end_rest (f t) e) s (no_turn e) later, closed_stands t (end_kind (f t) e) (end_rest (f t) e) s later) in
+          (with_new (SharedAt t) e (length s.blocks) (new_shared e s) here h, here)
 
-  kept_tidy : (es : List Entry) (k : BlockRest) (s : Building) → Tidy t s → RestEnds t true k → Later t (kept_chain es k s).1 → Tidy t (kept_chain es k s).1 × KindAt t true (kept_chain es k s).0
-  kept_tidy es k s h l later =
-      let c = closed_tidy t Kind.Cleanup k s h l in
-      (record { blocks = c.blocks; chains = λ ds n e. by_entries (same_entries ds es) ds n e }, kind_stands t Kind.Cleanup k s later)
+  pub share_ranked : (e : SharedEnd) (s : Building) → Ranked s → LeadsOn (end_rest (f t) e) s → Ranked (share (f t) e s).1 × Given (length (share (f t) e s).1.blocks) (share (f t) e s).0
+  share_ranked e s h l = by_known (end_among e (s.shared (listed_at e))) refl
     where
-      by_entries : (x : Bool) (ds : List Entry) (n : ℕ) → (if x then Some (length s.blocks) else chain_among ds s.chains) ≡ Some n → KindAt t true n
-      by_entries true ds n e = subst (KindAt t true) (same_Some (length s.blocks) n e) (kind_stands t Kind.Cleanup k s later)
-      by_entries false ds n e = h.chains ds n e
+      by_known : (o : Option ℕ) → end_among e (s.shared (listed_at e)) ≡ o → Ranked (shared_or (f t) o e s).1 × Given (length (shared_or (f t) o e s).1.blocks) (shared_or (f t) o e s).0
+      by_known (Some n) known = (h, h.shared e (listed_at e) n known)
+      by_known None known =
+          let c = closed_ranked (end_kind (f t) e) (end_rest (f t) e) s h l in
+          let j = closed_length (end_kind (f t) e) (end_rest (f t) e) s in
+          let g : Given (length (new_shared e s).blocks) (length s.blocks) = (h.begun, omega arith) in
+          (record { blocks = c.blocks; shared = with_new (λ d n. Given (length (new_shared e s).blocks) n) e (length s.blocks) (new_shared e s) g c.shared; begun = c.begun }, g)
 
-  abbrev drop_rest : Entry → ℕ × Building → BlockRest
-  drop_rest x rest = ending (Term.DropAt (place_of (f t) (entry_site x)) rest.0 Unwind.Abort) x.key
+  abbrev pub EndKind : SharedEnd → ℕ → Type 0
+  EndKind e n = KindAt t (is_cleanup_kind (end_kind (f t) e)) n
 
-  abbrev after_chain : Entry → List Entry → Building → ℕ × Building
-  after_chain x es s = let rest = chain (f t) es s in kept_chain (x ∷ es) (drop_rest x rest) rest.1
+  pub share_tidy : (e : SharedEnd) (s : Building) → Tidy t s → RestEnds t (is_cleanup_kind (end_kind (f t) e)) (end_rest (f t) e) → Later t (share (f t) e s).1 → Tidy t (share (f t) e s).1 × EndKind e (share (f t) e s).0
+  share_tidy e s h l = by_known (end_among e (s.shared (listed_at e))) refl
+    where
+      by_known : (o : Option ℕ) → end_among e (s.shared (listed_at e)) ≡ o → Later t (shared_or (f t) o e s).1 → Tidy t (shared_or (f t) o e s).1 × EndKind e (shared_or (f t) o e s).0
+      by_known (Some n) known later = (h, h.shared e (listed_at e) n known)
+      by_known None known later =
+          let c = closed_tidy t (end_kind (f t) e) (end_rest (f t) e) s h l in
+          let here : EndKind e (length s.blocks) = kind_stands t (end_kind (f t) e) (end_rest (f t) e) s later in
+          (record { blocks = c.blocks; shared = with_new EndKind e (length s.blocks) (new_shared e s) here c.shared }, here)
+
+  -- ---- chains of drops
+  abbrev pub ChainAt : List Entry → ℕ → Type 0
+  ChainAt es n = StepAt t n × CleanAt t es (n, 0)
+
+  abbrev drop_end : Entry → List Entry → Building → SharedEnd
+  drop_end x es s = DropsThen x.key (chain (f t) es s).0 Unwind.Abort
 
   pub chain_grows : (es : List Entry) (s : Building) → Grows s (chain (f t) es s).1
-  chain_grows [] s = by_kept (chain_among [] s.chains)
-    where
-      by_kept : (o : Option ℕ) → Grows s (chain_or o s (kept_chain [] (ending Term.Resume 0))).1
-      by_kept (Some n) = grows_not s
-      by_kept None = kept_grows [] (ending Term.Resume 0) s
-  chain_grows (x ∷ es) s = by_kept (chain_grows es s) (chain_among (x ∷ es) s.chains)
-    where
-      by_kept : Grows s (chain (f t) es s).1 → (o : Option ℕ) → Grows s (chain_or o s (after_chain x es)).1
-      by_kept ih (Some n) = grows_not s
-      by_kept ih None = grows_on s (chain (f t) es s).1 _ ih (kept_grows (x ∷ es) (drop_rest x (chain (f t) es s)) (chain (f t) es s).1)
+  chain_grows [] s = share_grows Resumes s
+  chain_grows (x ∷ es) s = grows_on s (chain (f t) es s).1 _ (chain_grows es s) (share_grows (drop_end x es s) (chain (f t) es s).1)
 
-  pub chain_made : (es : List Entry) (s : Building) → ChainsStand t s → Later t (chain (f t) es s).1 → ChainsStand t (chain (f t) es s).1 × ChainAt t es (chain (f t) es s).0
-  chain_made [] s h = by_kept (chain_among [] s.chains) refl
-    where
-      by_kept : (o : Option ℕ) → chain_among [] s.chains ≡ o → Later t (chain_or o s (kept_chain [] (ending Term.Resume 0))).1 →
-          ChainsStand t (chain_or o s (kept_chain [] (ending Term.Resume 0))).1 × ChainAt t [] (chain_or o s (kept_chain [] (ending Term.Resume 0))).0
-      by_kept (Some n) e later = (h, h [] n e)
-      by_kept None e later = kept_stand [] (ending Term.Resume 0) s h (λ st. ends_with t Term.Resume 0 (length s.blocks, 0) st) later
-  chain_made (x ∷ es) s h = by_kept (chain_made es s h) (chain_among (x ∷ es) s.chains) refl
-    where
-      by_kept : (Later t (chain (f t) es s).1 → ChainsStand t (chain (f t) es s).1 × ChainAt t es (chain (f t) es s).0) → (o : Option ℕ) → chain_among (x ∷ es) s.chains ≡ o →
-          Later t (chain_or o s (after_chain x es)).1 → ChainsStand t (chain_or o s (after_chain x es)).1 × ChainAt t (x ∷ es) (chain_or o s (after_chain x es)).0
-      by_kept ih (Some n) e later = (h, h (x ∷ es) n e)
-      by_kept ih None e later =
-          let r = chain (f t) es s in
-          let rest = ih (later_before t r.1 _ (kept_grows (x ∷ es) (drop_rest x r) r.1) later) in
-          kept_stand (x ∷ es) (drop_rest x r) r.1 rest.0
-          (λ st. (
+  pub chain_made : (es : List Entry) (s : Building) → SharedStand t s → Later t (chain (f t) es s).1 → SharedStand t (chain (f t) es s).1 × ChainAt es (chain (f t) es s).0
+  chain_made [] s h later =
+      let made = share_made Resumes s h later in (made.0, (made.1.0, ends_with t Term.Resume 0 ((share (f t) Resumes s).0, 0) made.1.1))
+  chain_made (x ∷ es) s h later =
+      let r = chain (f t) es s in
+      let e = drop_end x es s in
+      let rest = chain_made es s h (later_before t r.1 _ (share_grows e r.1) later) in
+      let made = share_made e r.1 rest.0 later in
+      let n = (share (f t) e r.1).0 in (
+        made.0,
+        (
+          made.1.0,
+          (
             place_of (f t) (entry_site x),
             r.0,
-            ends_with t (Term.DropAt (place_of (f t) (entry_site x)) r.0 Unwind.Abort) x.key (length r.1.blocks, 0) st,
-            site_same (t.node (length r.1.blocks) 0) (entry_site x) (sym st.2.2),
+            ends_with t (Term.DropAt (place_of (f t) (entry_site x)) r.0 Unwind.Abort) x.key (n, 0) made.1.1,
+            site_same (t.node n 0) (entry_site x) (sym made.1.1.2.2),
             rest.1.0,
             rest.1.1,
-          )) later
+          ),
+        ),
+      )
 
   pub chain_ranked : (es : List Entry) (s : Building) → Ranked s → Ranked (chain (f t) es s).1 × Given (length (chain (f t) es s).1.blocks) (chain (f t) es s).0
-  chain_ranked [] s h = by_kept (chain_among [] s.chains) refl
-    where
-      by_kept : (o : Option ℕ) → chain_among [] s.chains ≡ o → Ranked (chain_or o s (kept_chain [] (ending Term.Resume 0))).1
-          × Given (length (chain_or o s (kept_chain [] (ending Term.Resume 0))).1.blocks) (chain_or o s (kept_chain [] (ending Term.Resume 0))).0
-      by_kept (Some n) e = (h, h.chains [] n e)
-      by_kept None e = kept_ranked [] (ending Term.Resume 0) s h tt
-  chain_ranked (x ∷ es) s h = by_kept (chain_ranked es s h) (chain_among (x ∷ es) s.chains) refl
-    where
-      by_kept : Ranked (chain (f t) es s).1 × Given (length (chain (f t) es s).1.blocks) (chain (f t) es s).0 → (o : Option ℕ) → chain_among (x ∷ es) s.chains ≡ o →
-          Ranked (chain_or o s (after_chain x es)).1 × Given (length (chain_or o s (after_chain x es)).1.blocks) (chain_or o s (after_chain x es)).0
-      by_kept ih (Some n) e = (h, h.chains (x ∷ es) n e)
-      by_kept ih None e = kept_ranked (x ∷ es) (drop_rest x (chain (f t) es s)) (chain (f t) es s).1 ih.0 (ih.1, tt)
+  chain_ranked [] s h = share_ranked Resumes s h tt
+  chain_ranked (x ∷ es) s h = let rest = chain_ranked es s h in share_ranked (drop_end x es s) (chain (f t) es s).1 rest.0 (rest.1, tt)
 
   pub chain_tidy : (es : List Entry) (s : Building) → Tidy t s → Later t (chain (f t) es s).1 → Tidy t (chain (f t) es s).1 × KindAt t true (chain (f t) es s).0
-  chain_tidy [] s h = by_kept (chain_among [] s.chains) refl
-    where
-      by_kept : (o : Option ℕ) → chain_among [] s.chains ≡ o → Later t (chain_or o s (kept_chain [] (ending Term.Resume 0))).1 →
-          Tidy t (chain_or o s (kept_chain [] (ending Term.Resume 0))).1 × KindAt t true (chain_or o s (kept_chain [] (ending Term.Resume 0))).0
-      by_kept (Some n) e later = (h, h.chains [] n e)
-      by_kept None e later = kept_tidy [] (ending Term.Resume 0) s h (tt, tt) later
-  chain_tidy (x ∷ es) s h = by_kept (chain_tidy es s h) (chain_among (x ∷ es) s.chains) refl
-    where
-      by_kept : (Later t (chain (f t) es s).1 → Tidy t (chain (f t) es s).1 × KindAt t true (chain (f t) es s).0) → (o : Option ℕ) → chain_among (x ∷ es) s.chains ≡ o →
-          Later t (chain_or o s (after_chain x es)).1 → Tidy t (chain_or o s (after_chain x es)).1 × KindAt t true (chain_or o s (after_chain x es)).0
-      by_kept ih (Some n) e later = (h, h.chains (x ∷ es) n e)
-      by_kept ih None e later =
-          let r = chain (f t) es s in
-          let rest = ih (later_before t r.1 _ (kept_grows (x ∷ es) (drop_rest x r) r.1) later) in
-          kept_tidy (x ∷ es) (drop_rest x r) r.1 rest.0 ((rest.1, refl, refl), tt) later
+  chain_tidy [] s h later = share_tidy Resumes s h (tt, tt) later
+  chain_tidy (x ∷ es) s h later =
+      let r = chain (f t) es s in
+      let rest = chain_tidy es s h (later_before t r.1 _ (share_grows (drop_end x es s) r.1) later) in
+      share_tidy (drop_end x es s) r.1 rest.0 ((rest.1, refl, refl), tt) later
 
   -- where a panic goes on
   pub unwind_grows : (es : List Entry) (s : Building) → Grows s (unwind_to (f t) es s).1
   unwind_grows [] s = grows_not s
   unwind_grows (x ∷ es) s = chain_grows (x ∷ es) s
 
-  pub unwind_made : (es : List Entry) (s : Building) → ChainsStand t s → Later t (unwind_to (f t) es s).1 → ChainsStand t (unwind_to (f t) es s).1 × Cleans t es (unwind_to (f t) es s).0
+  pub unwind_made : (es : List Entry) (s : Building) → SharedStand t s → Later t (unwind_to (f t) es s).1 → SharedStand t (unwind_to (f t) es s).1 × Cleans t es (unwind_to (f t) es s).0
   unwind_made [] s h later = (h, refl)
   unwind_made (x ∷ es) s h later = chain_made (x ∷ es) s h later
 
@@ -326,8 +303,8 @@ module _ (t : CodeTarget) where
   pub two_later : (term : ℕ → Unwind → Term) (node : ℕ) (es : List Entry) (k : BlockRest) (s : Building) → Later t (two_ways term node es k s).1 → Later t (closed Kind.Plain k s)
   two_later term node es k s later = later_before t (closed Kind.Plain k s) _ (unwind_grows es (closed Kind.Plain k s)) later
 
-  pub two_made : (term : ℕ → Unwind → Term) (node : ℕ) (es : List Entry) (k : BlockRest) (s : Building) → ChainsStand t s → Later t (two_ways term node es k s).1 →
-      ChainsStand t (two_ways term node es k s).1 × Cleans t es (unwind_to (f t) es (closed Kind.Plain k s)).0
+  pub two_made : (term : ℕ → Unwind → Term) (node : ℕ) (es : List Entry) (k : BlockRest) (s : Building) → SharedStand t s → Later t (two_ways term node es k s).1 →
+      SharedStand t (two_ways term node es k s).1 × Cleans t es (unwind_to (f t) es (closed Kind.Plain k s)).0
   two_made term node es k s h later = unwind_made es (closed Kind.Plain k s) h later
 
   pub two_ranked : (term : ℕ → Unwind → Term) (node : ℕ) (es : List Entry) (k : BlockRest) (s : Building) → ((n : ℕ) (u : Unwind) → targets (term n u) ≡ n ∷ unwind_block u ++ []) → Ranked s → LeadsOn k s →

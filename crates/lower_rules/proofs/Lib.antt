@@ -1,8 +1,16 @@
 pub mod Bodies
 pub mod Codes
 mod Examples
+pub mod LoweredRules
+pub mod LoweredArms
+pub mod LoweredStatements
 pub mod Forms
+pub mod SiteRules
+pub mod SitedForms
 pub mod FormSites
+pub mod PatternSizes
+pub mod CostRules
+pub mod CostBranches
 pub mod FormSizes
 pub mod Jumps
 pub mod KnownTypes
@@ -12,6 +20,10 @@ pub mod LaidEffects
 pub mod LaidScopes
 pub mod LaidBranches
 pub mod Scopes
+pub mod SharedEnds
+pub mod ScopeSizes
+pub mod KnownChains
+pub mod DropSizes
 pub mod Sizes
 pub mod Stops
 pub mod Typed
@@ -21,6 +33,12 @@ pub mod FreeWalks
 pub mod NodeNumbers
 pub mod PlacesOfHalts
 pub mod Runs
+pub mod TiedWalks
+pub mod SimulatedSteps
+pub mod SimulatedScopes
+pub mod SimulatedRules
+pub mod SimulatedPatterns
+pub mod SimulatedLoops
 pub mod Simulation
 pub mod StackOfBodies
 pub mod ValuesSettled

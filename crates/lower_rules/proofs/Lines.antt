@@ -15,7 +15,7 @@ use Rattle.src_meaning.specs.Forms.{moved}
 use Rattle.src_meaning.specs.Scopes.{Entry, Scope, Scopes, with_scope, innermost, around_innermost, nearest_from, nearest_temporary, with_entry, with_pending, without_pending, without_key, without_keys, becomes_entry, without_operands, all_entries, needing_drop, entry_site, Exit}
 use Rattle.src_meaning.specs.Shape.{PatternTest, IsVariant, IsNumber, IsTruth, AnyOf, PatternTests, no_test, a_test, Alternatives, no_alternative, an_alternative}
 use Rattle.lower_rules.specs.Spots.{JumpWay, Ways, ways_in_loop}
-use Rattle.lower_rules.specs.Build.{LoweringFrame, NodeLine, BlockRest, MadeBlock, Building, ending, with_line, made, closed, reserved, filled, chain_among, kept_chain, chain_or, way_of, is_left_by, Lowers, Done, ByStmt, ByTerm, change, nothing, from_changed, back_in, then_build, then_lower, joined, after_either, branches, with_exit, looped, place_of, operand_of, done_by, chain, unwind_to, unwinding, done, is_last, act_by, act, panic_drops, drop_one, drop_all, outer, leave_from, leave, in_scope, leaves_one, leaves_to, exits, jump, panics, if_true, compared, tests, test, any_test, taken, put_into, replaces}
+use Rattle.lower_rules.specs.Build.{LoweringFrame, NodeLine, BlockRest, MadeBlock, SharedEnd, Resumes, GoesTo, DropsThen, Building, ending, with_line, made, closed, reserved, filled, end_among, end_kind, end_rest, listed_at, shared_or, share, jump_of, way_of, is_left_by, Lowers, Done, ByStmt, ByTerm, change, nothing, from_changed, back_in, then_build, then_lower, joined, after_either, branches, with_exit, looped, place_of, operand_of, done_by, chain, unwind_to, unwinding, done, is_last, act_by, act, panic_drops, drop_one, drop_all, drops_before, drops_to, outer, leave_by, leave_from, leave, in_scope, leaves_one, leaves_before, leaves_to, exits, jump, panics, if_true, compared, tests, test, any_test, taken, put_into, replaces}
 
 -- what is to hold of the statement of an effect: with anything behind it, or, where no run comes behind it, with the way to
 -- the block that returns
@@ -190,23 +190,18 @@ module _ (f : LoweringFrame) (w : Wanted f) where
       by_place n m (inl e) = h.blocks n m e
       by_place n m (inr e) = absurd (none-some m e)
 
-  kept_ok : (es : List Entry) (k : BlockRest) (s : Building) → Ok s → RestOk k → Ok (kept_chain es k s).1
-  kept_ok es k s h l = record { blocks = (closed_ok Kind.Cleanup k s h l).blocks }
+  share_ok : (e : SharedEnd) (s : Building) → Ok s → RestOk (end_rest f e) → Ok (share f e s).1
+  share_ok e s h l = by_known (end_among e (s.shared (listed_at e)))
+    where
+      by_known : (o : Option ℕ) → Ok (shared_or f o e s).1
+      by_known (Some n) = h
+      by_known None = record { blocks = (closed_ok (end_kind f e) (end_rest f e) s h l).blocks }
 
   chain_ok : (es : List Entry) → DropsOk es → (s : Building) → Ok s → Ok (chain f es s).1
-  chain_ok [] d s h = by_kept (chain_among [] s.chains)
-    where
-      by_kept : (o : Option ℕ) → Ok (chain_or o s (kept_chain [] (ending Term.Resume 0))).1
-      by_kept (Some n) = h
-      by_kept None = kept_ok [] (ending Term.Resume 0) s h (tt, w.resume 0)
-  chain_ok (x ∷ es) d s h = by_kept (chain_ok es d.1 s h) (chain_among (x ∷ es) s.chains)
-    where
-      drop_rest : ℕ × Building → BlockRest
-      drop_rest rest = ending (Term.DropAt (place_of f (entry_site x)) rest.0 Unwind.Abort) x.key
-
-      by_kept : Ok (chain f es s).1 → (o : Option ℕ) → Ok (chain_or o s (λ s. let rest = chain f es s in kept_chain (x ∷ es) (drop_rest rest) rest.1)).1
-      by_kept ih (Some n) = h
-      by_kept ih None = kept_ok (x ∷ es) (drop_rest (chain f es s)) (chain f es s).1 ih (tt, w.drop x d.0.0 d.0.1 (chain f es s).0 Unwind.Abort)
+  chain_ok [] d s h = share_ok Resumes s h (tt, w.resume 0)
+  chain_ok (x ∷ es) d s h =
+      let r = chain f es s in
+      share_ok (DropsThen x.key r.0 Unwind.Abort) r.1 (chain_ok es d.1 s h) (tt, w.drop x d.0.0 d.0.1 r.0 Unwind.Abort)
 
   unwind_ok : (es : List Entry) → DropsOk es → (s : Building) → Ok s → Ok (unwind_to f es s).1
   unwind_ok [] d s h = h
@@ -226,21 +221,49 @@ module _ (f : LoweringFrame) (w : Wanted f) where
       unwinding_ok (Term.DropAt (place_of f (entry_site e)) (length r.1.blocks)) e.key (w.drop e d.0.0 d.0.1 (length r.1.blocks)) (es ++ panic_drops f S) (drops_append es (panic_drops f S) d.1 (panic_ok S o))
       (closed Kind.Plain r.0 r.1) (closed_ok Kind.Plain r.0 r.1 ih.0 ih.1)
 
+  -- drops before a jump
+  before_ok : (es : List Entry) → DropsOk es → (S : Scopes) → ScopesOk S → (to : ℕ × Building) → Ok to.1 → Ok (drops_before f es S to).1
+  before_ok [] d S o to h = h
+  before_ok (e ∷ es) d S o to h =
+      let r = drops_before f es S to in
+      let down = unwind_to f (es ++ panic_drops f S) r.1 in
+      share_ok (DropsThen e.key r.0 down.0) down.1 (unwind_ok (es ++ panic_drops f S) (drops_append es (panic_drops f S) d.1 (panic_ok S o)) r.1 (before_ok es d.1 S o to h))
+      (tt, w.drop e d.0.0 d.0.1 r.0 down.0)
+
+  to_ok : (es : List Entry) → DropsOk es → (S : Scopes) → ScopesOk S → (to : ℕ × Building) (none : BlockRest × Building) → Ok to.1 → Both none → Both (drops_to f es S to none)
+  to_ok [] d S o to none h n = n
+  to_ok (e ∷ es) d S o to none h n =
+      let r = drops_before f es S to in
+      unwinding_ok (Term.DropAt (place_of f (entry_site e)) r.0) e.key (w.drop e d.0.0 d.0.1 r.0) (es ++ panic_drops f S) (drops_append es (panic_drops f S) d.1 (panic_ok S o)) r.1
+      (before_ok es d.1 S o to h)
+
   leave_ok : (S : Scopes) → ScopesOk S → (k : BlockRest) (s : Building) → Ok s → RestOk k → Both (leave_from f S k s)
   leave_ok [] o k s h l = (h, l)
-  leave_ok (x ∷ S) o k s h l = drops_ok (needing_drop f.items x.entries) (needing_ok x.entries o.1) S o.2 k s h l
+  leave_ok (x ∷ S) o k s h l = by_jump (jump_of k)
+    where
+      by_jump : (j : Option ℕ) → Both (leave_by f j (needing_drop f.items x.entries) S k s)
+      by_jump (Some block) = to_ok (needing_drop f.items x.entries) (needing_ok x.entries o.1) S o.2 (share f (GoesTo block) s) (k, s) (share_ok (GoesTo block) s h (tt, w.goto block 0)) (h, l)
+      by_jump None = drops_ok (needing_drop f.items x.entries) (needing_ok x.entries o.1) S o.2 k s h l
 
   outer_ok : (S : Scopes) → ScopesOk S → ScopesOk (outer f S)
   outer_ok [] h = h
   outer_ok (s ∷ S) h = h.2
+
+  before_leaves_ok : (way : JumpWay) (S : Scopes) → ScopesOk S → (s : Building) → Ok s → Ok (leaves_before f way S s).1
+  before_leaves_ok way [] o s h = share_ok (GoesTo way.block) s h (tt, w.goto way.block 0)
+  before_leaves_ok way (x ∷ S) o s h = by_base (before_leaves_ok way S o.2 s h) (not (nat_lt (length S) way.base))
+    where
+      by_base : Ok (leaves_before f way S s).1 → (b : Bool) → Ok (leaves_one f b (drops_before f (needing_drop f.items x.entries) S (leaves_before f way S s)) (share f (GoesTo way.block) s)).1
+      by_base ih true = before_ok (needing_drop f.items x.entries) (needing_ok x.entries o.1) S o.2 (leaves_before f way S s) ih
+      by_base ih false = share_ok (GoesTo way.block) s h (tt, w.goto way.block 0)
 
   jumped_ok : (node : ℕ) (way : JumpWay) (S : Scopes) → ScopesOk S → (s : Building) → Ok s → Both (leaves_to f node way S s)
   jumped_ok node way [] o s h = (h, (tt, w.goto way.block node))
   jumped_ok node way (x ∷ S) o s h = by_base (jumped_ok node way S o.2 s h) (not (nat_lt (length S) way.base))
     where
       by_base : Both (leaves_to f node way S s) → (b : Bool) →
-          Both (leaves_one f b (let rest = leaves_to f node way S s in drop_all f (needing_drop f.items x.entries) S rest.0 rest.1) (ending (Term.Goto way.block) node, s))
-      by_base ih true = drops_ok (needing_drop f.items x.entries) (needing_ok x.entries o.1) S o.2 (leaves_to f node way S s).0 (leaves_to f node way S s).1 ih.0 ih.1
+          Both (leaves_one f b (drops_to f (needing_drop f.items x.entries) S (leaves_before f way S s) (leaves_to f node way S s)) (ending (Term.Goto way.block) node, s))
+      by_base ih true = to_ok (needing_drop f.items x.entries) (needing_ok x.entries o.1) S o.2 (leaves_before f way S s) (leaves_to f node way S s) (before_leaves_ok way S o.2 s h) ih
       by_base ih false = (h, (tt, w.goto way.block node))
 
   -- ---- what is lowered: its lines are as wanted, where the scopes and the lines around it are
@@ -363,11 +386,11 @@ module _ (f : LoweringFrame) (w : Wanted f) where
     after = λ e S o. o;
     lines = λ c t S k s o h l.
         let start = with_exit (is_left_by id turn.jumps) k s in
-        let again = ending (Term.Goto (length start.blocks)) id in
+        let again = ending (Term.Goto (length start.blocks)) 0 in
         let inside = ways_in_loop id (length S) (length s.blocks) (length start.blocks) (is_left_by id turn.jumps) c in
         let code = turn.build inside S again (reserved start) in
-        let x = p.lines inside t S again (reserved start) o (reserved_ok start (exit_ok (is_left_by id turn.jumps) k s h l)) (tt, w.goto (length start.blocks) id) in
-        (filled_ok Kind.Turn (length start.blocks) code.0 code.1 x.0 x.1, (tt, w.goto (length start.blocks) id));
+        let x = p.lines inside t S again (reserved start) o (reserved_ok start (exit_ok (is_left_by id turn.jumps) k s h l)) (tt, w.goto (length start.blocks) 0) in
+        (filled_ok Kind.Turn (length start.blocks) code.0 code.1 x.0 x.1, (tt, w.goto (length start.blocks) 0));
   }
 
   pub jump_sound : (node : ℕ) (exit : Exit) (P : Lowers) → Sound P → Sound (jump f node exit P)

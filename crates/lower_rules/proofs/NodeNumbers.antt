@@ -12,7 +12,7 @@ use Rattle.store_model.specs.Concrete.Effects.{or_stuck, evaluate_operand, evalu
 use Rattle.store_model.specs.Concrete.Location.{Setting}
 use Rattle.store_model.specs.Concrete.State.{State, Bodies}
 use Rattle.store_model.specs.Effects as effects
-use Rattle.store_model.specs.Effects.{Action, Stuck, Out, Go, Unwind, Halts, Effects, halting_if, stores_where}
+use Rattle.store_model.specs.Effects.{Stuck, Out, Go, Unwind, Halts, Effects, halting_if}
 use Rattle.store_model.specs.Values.Datum.{Datum}
 use Rattle.lower_rules.proofs.WalksOfBodies.{SameForNodes}
 use Rattle.lower_rules.specs.CodeLaws.{without_place}
@@ -118,20 +118,14 @@ module _ (setting : Setting) (run : Bodies) (fuel n n' : ℕ) where
   q = naming without_place (concrete_effects setting run fuel)
 
   term_same : (term : Term) (next : Next State) (w : State) → term_does q n term next w ≡ term_does q n' term next w
-  term_same (Term.Goto block) next w = refl
   term_same (Term.If on y m) next w = ap (λ o. branch (renamed_choice without_place (chosen_truth setting o w)) (next y) (next m)) (one_same on w)
-  term_same (Term.Case on variant y m) next w = refl
   term_same (Term.Math to op l r onward u) next w = ap (λ o. acts (renamed without_place o) next onward u) (math_same to op l r w)
   term_same (Term.Negate to x onward u) next w = ap (λ o. acts (renamed without_place o) next onward u) (negate_same to x w)
   term_same (Term.Bounds x count onward u) next w =
       ap (λ o. acts (renamed without_place o) next onward u) (using_one x (bounded setting count) (bounded setting count) w (λ a v. refl))
   term_same (Term.Call to f args onward u) next w = ap (λ o. acts (renamed without_place o) next onward u) (call_same to f args w)
   term_same (Term.Virtual to trait_no method args onward u) next w = ap (λ o. acts (renamed without_place o) next onward u) (virtual_same to trait_no method args w)
-  term_same (Term.Ask to onward u) next w = refl
-  term_same (Term.DropAt place onward u) next w = refl
-  term_same (Term.Panic why u) next w = refl
-  term_same Term.Return next w = refl
-  term_same Term.Resume next w = refl
+  term_same other next w = refl
 
 module _ (setting : Setting) (run : Bodies) (fuel : ℕ) where
   abbrev p : Effects State

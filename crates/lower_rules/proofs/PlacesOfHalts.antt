@@ -13,7 +13,7 @@ use Rattle.store_model.specs.Concrete.Effects.{Computed, Gives, PanicsBy, comput
 use Rattle.store_model.specs.Concrete.Location.{Setting, DynamicType, concrete_ty, Located, into, Reached, Reaches, CutOff, Nowhere, reach, on_reached, stored_at}
 use Rattle.store_model.specs.Concrete.State.{State, with_event, numbered_next, Answer, Returns, Unwinds, HaltsIn, Bodies}
 use Rattle.store_model.specs.Effects as effects
-use Rattle.store_model.specs.Effects.{EffectSite, AggregateKind, OfTuple, OfArray, OfVariant, OfClosure, Action, Test, Mode, Normal, Unwinding, Halt, OutOfTicks, Stuck, Out, Go, Unwind, Halts, Choice, Yes, No, Neither, Effects, halting_if, stores_where}
+use Rattle.store_model.specs.Effects.{EffectSite, AggregateKind, OfTuple, OfArray, OfVariant, OfClosure, Action, Mode, Normal, Unwinding, Halt, Stuck, Out, Go, Unwind, Halts, halting_if, stores_where}
 use Rattle.store_model.specs.Values.Datum.{Datum, Data, Gone, Number, Truth, UnitValue, Aggregate, Box, Address, no_part, a_part}
 use Rattle.store_model.specs.Values.Wholeness.{is_whole, serials}
 use Rattle.lower_rules.specs.CodeLaws.{without_place}
@@ -217,12 +217,7 @@ module _ (setting : Setting) where
 
     freed_there_renamed : (value : Datum) (s : Located) (w : State) → renamed without_place (freed_there setting run value s w) ≡ freed_there setting run' value s w
     freed_there_renamed (Box serial impl_no inside) s w = refl
-    freed_there_renamed Gone s w = refl
-    freed_there_renamed (Number number) s w = refl
-    freed_there_renamed (Truth truth) s w = refl
-    freed_there_renamed UnitValue s w = refl
-    freed_there_renamed (Aggregate variant serial parts) s w = refl
-    freed_there_renamed (Address address) s w = refl
+    freed_there_renamed other s w = refl
 
     freed_at_renamed : (s : Located) (w : State) → renamed without_place (freed_at setting run s w) ≡ freed_at setting run' s w
     freed_at_renamed s w = still_renamed s.dynamic _ _ _ w (λ s. freed_there_renamed s.value s w)

@@ -24,7 +24,7 @@ use Rattle.store_model.specs.Concrete.Effects.{concrete_effects, never_at}
 use Rattle.store_model.specs.Concrete.Location.{Setting}
 use Rattle.store_model.specs.Concrete.State.{Activation, Cells, State, Answer, Returns, Unwinds, HaltsIn, Bodies, spend, with_event, with_activation, without_activation, beginning}
 use Rattle.store_model.specs.Effects as effects
-use Rattle.store_model.specs.Effects.{Halt, OutOfTicks, Stuck, Out, Go, Unwind, Halts, Choice, Yes, No, Neither, Effects, Action, EffectSite, stores_where, DoesNotGoOn}
+use Rattle.store_model.specs.Effects.{Stuck, Out, Go, Unwind, Halts, Choice, Yes, No, Neither, Effects, Action, EffectSite, stores_where}
 use Rattle.store_model.specs.Values.Datum.{Datum}
 use Rattle.typed_tree.specs.Tree.{BodyTree, ProgramTree}
 use Rattle.src_meaning.specs.Locals.Effects.{at_locals}
@@ -34,7 +34,8 @@ use Rattle.src_meaning.specs.Programs.{activation, setting_of, code_of, source}
 use Rattle.lower_rules.proofs.FreeWalks.{renamed_no_unwind, renamed_not_on}
 use Rattle.lower_rules.proofs.NodeNumbers.{block_same}
 use Rattle.lower_rules.proofs.PlacesOfHalts.{answer_without_place, AgreeUpToPlace, tied_up_to_place}
-use Rattle.lower_rules.proofs.Simulation.{Settled, body_runs}
+use Rattle.lower_rules.proofs.Simulation.{body_runs}
+use Rattle.lower_rules.proofs.TiedWalks.{Settled}
 use Rattle.lower_rules.proofs.StackOfBodies.{stack, bodies_in, SameStack, SameStackOf, KeepsStack, KeptAnswer, StackLaws, stack_laws}
 use Rattle.lower_rules.proofs.ValuesSettled.{values_settled}
 use Rattle.lower_rules.proofs.WalksOfBodies.{Walk, walks}
@@ -225,14 +226,7 @@ outcome_of_place : (a : Answer) → outcome_without_place (outcome_of a) ≡ out
 outcome_of_place (Returns value w) = refl
 outcome_of_place (Unwinds w) = refl
 outcome_of_place (HaltsIn effects.Aborted w) = refl
-outcome_of_place (HaltsIn OutOfTicks w) = refl
-outcome_of_place (HaltsIn Stuck w) = refl
-outcome_of_place (HaltsIn (effects.StuckAt body block) w) = refl
-outcome_of_place (HaltsIn (effects.BadUse site) w) = refl
-outcome_of_place (HaltsIn (effects.BadStore site) w) = refl
-outcome_of_place (HaltsIn effects.NoChoice w) = refl
-outcome_of_place (HaltsIn effects.Infeasible w) = refl
-outcome_of_place (HaltsIn effects.Unreachable w) = refl
+outcome_of_place (HaltsIn other w) = refl
 
 none_there : {A B C : Type 0} (f : A → C) (g : B → C) (as1 : List A) (bs : List B) → map f as1 ≡ map g bs → (n : ℕ) → slice_get as1 n ≡ None → slice_get bs n ≡ None
 none_there f g [] [] e n h = refl
@@ -295,13 +289,19 @@ module _ (program : ProgramTree) (graph : Graph) (held : HoldsProgram program gr
       renamed without_place (activation program.items (at_locals (local_of program.items tree) (source_effects n)) (suc n) tree w)
       ≡ renamed without_place (walk (graph_effects graph n) number (λ block line. 0) body (suc n) 0 w)
   within_same n agree number tree body there holds bodies w e l =
-      body_runs t (source_effects n) (naming without_place q) size n (naming_laws size without_place q laws)
-      (left_tied (number ∷ bodies) (suc n) (naming without_place (source_effects n)) (naming without_place q) n
-      (tied_up_to_place (here graph) (source_bodies n) (graph_bodies graph n) (body_spends (here graph) (cfg.code_of graph) (graph_keeps graph) n) n (suc n) (omega arith) agree))
-      (settled n number tree body (held.node number) there bodies)
-      (Walk size q laws number (λ block line. 0) t (block_same (here graph) (graph_bodies graph n) (suc n) (λ block line. 0) t.node) holds.ranked n (suc n) (omega arith))
-      (walks size q laws number (λ block line. 0) t (block_same (here graph) (graph_bodies graph n) (suc n) (λ block line. 0) t.node) holds.ranked n (suc n) (omega arith))
-      (suc n) (omega arith) tree holds.holds_code w (no_less (number ∷ bodies) (suc n) w n e l)
+      body_runs (record {
+        t = t;
+        p = source_effects n;
+        q = naming without_place q;
+        size = size;
+        bound = n;
+        laws = naming_laws size without_place q laws;
+        tied = left_tied (number ∷ bodies) (suc n) (naming without_place (source_effects n)) (naming without_place q) n
+            (tied_up_to_place (here graph) (source_bodies n) (graph_bodies graph n) (body_spends (here graph) (cfg.code_of graph) (graph_keeps graph) n) n (suc n) (omega arith) agree);
+        settled = settled n number tree body (held.node number) there bodies;
+        Walk = Walk size q laws number (λ block line. 0) t (block_same (here graph) (graph_bodies graph n) (suc n) (λ block line. 0) t.node) holds.ranked n (suc n) (omega arith);
+        walks = walks size q laws number (λ block line. 0) t (block_same (here graph) (graph_bodies graph n) (suc n) (λ block line. 0) t.node) holds.ranked n (suc n) (omega arith);
+      }) (suc n) (omega arith) tree holds.holds_code w (no_less (number ∷ bodies) (suc n) w n e l)
     where
       t : CodeTarget
       t = target_of program.items tree body (held.node number)

@@ -15,9 +15,9 @@ use Rattle.src_meaning.specs.Scopes.{Scope, Scopes, with_scope, innermost, aroun
 use Rattle.src_meaning.specs.Shape.{NodeHead, head, Shape, BoundName, kind_of, shape, shape_of, site_at, operand_of_bound, operand_at}
 use Rattle.store_model.specs.Places.Place.{whole_local}
 use Rattle.lower_rules.specs.Build as build
-use Rattle.lower_rules.specs.Build.{LoweringFrame, Lowers, Done, after_either, act, act_by, outer, is_last, done_by}
+use Rattle.lower_rules.specs.Build.{LoweringFrame, Lowers, after_either, act, act_by, outer, is_last, done_by}
 use Rattle.lower_rules.specs.Lower as lower
-use Rattle.lower_rules.specs.Lower.{Evaluates, Reaches, LowersArm, NodeLower, LowerIfAny, no_lower, a_lower}
+use Rattle.lower_rules.specs.Lower.{Evaluates, Reaches, NodeLower, LowerIfAny, no_lower, a_lower}
 
 abbrev kinds : Scopes → List Bool
 kinds S = map (λ s. s.for_temporaries) S
@@ -454,15 +454,7 @@ module _ (f : LoweringFrame) where
     form_local (tree.Return value) h s =
         scope_value_local h s (λ around to. build.jump f h.id Returns (lower.value_of_jump f h (lower.lower_if_any f value) around around.answer))
         (λ around to. jump_local h.id Returns (lower.value_of_jump f h (lower.lower_if_any f value) around around.answer) (jump_value_local h (lower.lower_if_any f value) (if_any_local value) around around.answer))
-    form_local tree.Wildcard h s = value_local h s (λ around own to. build.nothing) (λ around own to. nothing_local)
-    form_local (tree.Binding name) h s = value_local h s (λ around own to. build.nothing) (λ around own to. nothing_local)
-    form_local (tree.NumberPattern value) h s = value_local h s (λ around own to. build.nothing) (λ around own to. nothing_local)
-    form_local (tree.TruthPattern value) h s = value_local h s (λ around own to. build.nothing) (λ around own to. nothing_local)
-    form_local (tree.StructPattern fields) h s = value_local h s (λ around own to. build.nothing) (λ around own to. nothing_local)
-    form_local (tree.VariantPattern variant is_test fields) h s = value_local h s (λ around own to. build.nothing) (λ around own to. nothing_local)
-    form_local (tree.TuplePattern parts) h s = value_local h s (λ around own to. build.nothing) (λ around own to. nothing_local)
-    form_local (tree.ArrayPattern elements) h s = value_local h s (λ around own to. build.nothing) (λ around own to. nothing_local)
-    form_local (tree.OrPattern alternatives) h s = value_local h s (λ around own to. build.nothing) (λ around own to. nothing_local)
+    form_local other h s = value_local h s (λ around own to. build.nothing) (λ around own to. nothing_local)
 
     all_local : (ns : Nodes) → AllLocal (lower.lower_all f ns)
     all_local no_node = none_local

@@ -1,230 +1,27 @@
 -- How many blocks are made: one lemma a rule of `Build`. An entry is paid for when it is made: leaving its scope, which
 -- happens at most twice, makes three blocks for it each time; and a chain is made once.
-use Rattle.std.proofs.Common.{◌≡◌, inl, inr, ℕ, zero, suc, ◌+◌, ◌*◌, ◌≤◌, ◌==◌, ◌&&◌, ◌||◌, not, nat_lt, Bool, true, false, List, [], ◌∷◌, ◌++◌, length, Option, Some, None, slice_set, if◌then◌else◌, refl, sym, ap, ◌∙◌, arith, length-append, add-one}
-use Rattle.std.proofs.lemmas.Option.{none-some}
-use Rattle.std.proofs.lemmas.Bool.Decides.{eqb_tells}
+use Rattle.std.proofs.Common.{◌≡◌, ℕ, zero, suc, ◌+◌, ◌*◌, ◌≤◌, ◌||◌, Bool, true, false, List, [], ◌∷◌, length, Some, None, slice_set, refl, ap, arith, length-append}
 use Rattle.cfg_graph.specs.declared.graph.Kind.{Kind}
 use Rattle.cfg_graph.specs.declared.statement.Stmt.{Stmt}
 use Rattle.cfg_graph.specs.declared.terminator.Term.{Term}
 use Rattle.cfg_graph.specs.declared.terminator.Unwind.{Unwind}
 use Rattle.mir_base.specs.declared.trace.Why.{Why}
-use Rattle.mir_ty.specs.Facts.{needs_drop}
-use Rattle.mir_ty.specs.ItemTable.{ItemTable}
 use Rattle.store_model.specs.Effects as effects
 use Rattle.store_model.specs.Effects.{EffectSite, Action}
-use Rattle.src_meaning.specs.Scopes.{Entry, Scope, Scopes, with_scope, innermost, around_innermost, nearest_from, nearest_temporary, with_entry, with_pending, without_pending, without_key, without_keys, becomes_entry, without_operands, all_entries, needing_drop, entry_site, Exit}
+use Rattle.src_meaning.specs.Scopes.{Scopes, with_scope, innermost, without_operands, Exit}
 use Rattle.src_meaning.specs.Forms.{moved}
 use Rattle.src_meaning.specs.Shape.{PatternTest, IsVariant, IsNumber, IsTruth, AnyOf, PatternTests, no_test, a_test, Alternatives, no_alternative, an_alternative}
-use Rattle.lower_rules.specs.Spots.{JumpWay, Ways, ways_in_loop}
+use Rattle.lower_rules.specs.Spots.{Ways, ways_in_loop}
 use Rattle.lower_rules.specs.Build as build
-use Rattle.lower_rules.specs.Build.{LoweringFrame, BlockRest, Building, ending, made, next_number, closed, closing, reserved, filled, same_entries, chain_among, kept_chain, chain_or, way_of, is_left_by, Lowers, Done, ByStmt, ByTerm, change, nothing, from_changed, back_in, then_build, then_lower, joined, after_either, branches, with_exit, looped, place_of, done_by, chain, unwind_to, unwinding, done, is_last, act_by, act, panic_drops, drop_one, drop_all, outer, leave_from, leave, in_scope, leaves_one, leaves_to, exits, jump, panics, tests, test, any_test, taken, replaces_from, stores, replaces}
-
--- ---- how many entries scopes have, with the destinations that are pending
-abbrev pub size : Scope → ℕ
-size s = length s.pending + length s.entries
-
-abbrev pub all : Scopes → ℕ
-all [] = 0
-all (s ∷ S) = size s + all S
-
-all_same : (S : Scopes) → length (all_entries S) ≡ all S
-all_same [] = refl
-all_same (s ∷ S) =
-    let a = length-append (s.pending ++ s.entries) (all_entries S) in
-    let b = length-append s.pending s.entries in
-    let c = all_same S in
-    omega arith
-
-needing_most : (items : ItemTable) (es : List Entry) → length (needing_drop items es) ≤ length es
-needing_most items [] = omega arith
-needing_most items (e ∷ es) = by_need (needs_drop items e.ty) (needing_most items es)
-  where
-    by_need : (b : Bool) → length (needing_drop items es) ≤ length es →
-        length (if b then e ∷ needing_drop items es else needing_drop items es) ≤ suc (length es)
-    by_need true h = omega (arith, h)
-    by_need false h = omega (arith, h)
-
-needing_append : (items : ItemTable) (es ds : List Entry) →
-    needing_drop items (es ++ ds) ≡ needing_drop items es ++ needing_drop items ds
-needing_append items [] ds = refl
-needing_append items (e ∷ es) ds = by_need (needs_drop items e.ty) (needing_append items es ds)
-  where
-    by_need : (b : Bool) → needing_drop items (es ++ ds) ≡ needing_drop items es ++ needing_drop items ds →
-        (if b then e ∷ needing_drop items (es ++ ds) else needing_drop items (es ++ ds))
-        ≡ (if b then e ∷ needing_drop items es else needing_drop items es) ++ needing_drop items ds
-    by_need true h = ap (λ z. e ∷ z) h
-    by_need false h = h
-
--- ---- scopes that have grown by so many entries
-abbrev pub Grew : Scopes → Scopes → ℕ → Type 0
-Grew [] [] g = Unit {0}
-Grew [] (s ∷ S) g = ⊥
-Grew (s ∷ S) [] g = ⊥
-Grew (s ∷ S) (s' ∷ S') g = (a : ℕ) × (b : ℕ) × (size s' ≤ size s + a) × Grew S S' b × (a + b ≤ g)
-
-pub grew_not : (S : Scopes) (g : ℕ) → Grew S S g
-grew_not [] g = tt
-grew_not (s ∷ S) g = (0, 0, omega arith, grew_not S 0, omega arith)
-
-pub grew_on : (S S' S'' : Scopes) (g h : ℕ) → Grew S S' g → Grew S' S'' h → Grew S S'' (g + h)
-grew_on [] [] [] g h x y = tt
-grew_on [] [] (s'' ∷ S'') g h x y = absurd y
-grew_on [] (s' ∷ S') S'' g h x y = absurd x
-grew_on (s ∷ S) [] S'' g h x y = absurd x
-grew_on (s ∷ S) (s' ∷ S') [] g h x y = absurd y
-grew_on (s ∷ S) (s' ∷ S') (s'' ∷ S'') g h x y =
-    let i = x.2 in
-    let j = y.2 in
-    let k = x.4 in
-    let l = y.4 in
-    (x.0 + y.0, x.1 + y.1, omega arith, grew_on S S' S'' x.1 y.1 x.3 y.3, omega arith)
-
-pub grew_more : (S S' : Scopes) (g h : ℕ) → g ≤ h → Grew S S' g → Grew S S' h
-grew_more [] [] g h l x = tt
-grew_more [] (s' ∷ S') g h l x = x
-grew_more (s ∷ S) [] g h l x = x
-grew_more (s ∷ S) (s' ∷ S') g h l x = let k = x.4 in (x.0, x.1, x.2, x.3, omega arith)
-
-pub grew_all : (S S' : Scopes) (g : ℕ) → Grew S S' g → all S' ≤ all S + g
-grew_all [] [] g x = omega arith
-grew_all [] (s' ∷ S') g x = absurd x
-grew_all (s ∷ S) [] g x = absurd x
-grew_all (s ∷ S) (s' ∷ S') g x =
-    let i = x.2 in let k = x.4 in let more = grew_all S S' x.1 x.3 in omega arith
-
--- a change of a scope that adds at most so many entries
-abbrev pub Adds : ℕ → (Scope → Scope) → Type 0
-Adds n g = (s : Scope) → size (g s) ≤ size s + n
-
-pub innermost_grew : (n : ℕ) (g : Scope → Scope) → Adds n g → (S : Scopes) → Grew S (innermost g S) n
-innermost_grew n g adds [] = tt
-innermost_grew n g adds (s ∷ S) = (n, 0, adds s, grew_not S 0, omega arith)
-
-pub around_grew : (n : ℕ) (g : Scope → Scope) → Adds n g → (S : Scopes) → Grew S (around_innermost g S) n
-around_grew n g adds [] = tt
-around_grew n g adds (s ∷ S) = (0, n, omega arith, innermost_grew n g adds S, omega arith)
-
-pub nearest_grew : (n : ℕ) (g : Scope → Scope) → Adds n g → (S : Scopes) → Grew S (nearest_temporary g S) n
-nearest_grew n g adds [] = tt
-nearest_grew n g adds (s ∷ S) = by_kind s.for_temporaries (nearest_grew n g adds S)
-  where
-    by_kind : (b : Bool) → Grew S (nearest_temporary g S) n → Grew (s ∷ S) (nearest_from b g s S (nearest_temporary g S)) n
-    by_kind true h = (n, 0, adds s, grew_not S 0, omega arith)
-    by_kind false h = (0, n, omega arith, h, omega arith)
-
-key_most : (key : ℕ) (es : List Entry) → length (without_key key es) ≤ length es
-key_most key [] = omega arith
-key_most key (e ∷ es) = by_key (key == e.key) (key_most key es)
-  where
-    by_key : (b : Bool) → length (without_key key es) ≤ length es → length (if b then without_key key es else e ∷ without_key key es) ≤ suc (length es)
-    by_key true h = omega (arith, h)
-    by_key false h = omega (arith, h)
-
-keys_most : (keys : List ℕ) (es : List Entry) → length (without_keys keys es) ≤ length es
-keys_most [] es = omega arith
-keys_most (key ∷ keys) es = let i = keys_most keys (without_key key es) in let j = key_most key es in omega arith
-
-pub entry_adds : (e : Entry) → Adds 1 (with_entry e)
-entry_adds e s = omega arith
-
-pub pending_adds : (e : Entry) → Adds 1 (with_pending e)
-pending_adds e s = omega arith
-
-pub without_adds : (e : Entry) → Adds 0 (without_pending e)
-without_adds e s = let i = key_most e.key s.pending in omega arith
-
-pub becomes_adds : (e : Entry) → Adds 1 (becomes_entry e)
-becomes_adds e s = let i = key_most e.key s.pending in omega arith
-
-pub operands_add : (keys : List ℕ) → Adds 0 (without_operands keys)
-operands_add keys s = let i = keys_most keys s.entries in omega arith
-
--- ---- what a chain still costs: the blocks for its entries before one that is kept
-abbrev Chains : Type 0
-Chains = List (List Entry × ℕ)
-
-abbrev owes : Option ℕ → ℕ → ℕ
-owes (Some n) rest = 0
-owes None rest = suc rest
-
-abbrev debt : List Entry → Chains → ℕ
-debt [] cs = owes (chain_among [] cs) 0
-debt (e ∷ es) cs = owes (chain_among (e ∷ es) cs) (debt es cs)
-
-owes_most : (o : Option ℕ) (rest : ℕ) → owes o rest ≤ suc rest
-owes_most (Some n) rest = omega arith
-owes_most None rest = omega arith
-
-debt_most : (es : List Entry) (cs : Chains) → debt es cs ≤ suc (length es)
-debt_most [] cs = owes_most (chain_among [] cs) 0
-debt_most (e ∷ es) cs =
-    let i = owes_most (chain_among (e ∷ es) cs) (debt es cs) in let j = debt_most es cs in omega arith
-
-debt_behind : (es ds : List Entry) (cs : Chains) → debt (es ++ ds) cs ≤ length es + debt ds cs
-debt_behind [] ds cs = omega arith
-debt_behind (e ∷ es) ds cs =
-    let i = owes_most (chain_among (e ∷ es ++ ds) cs) (debt (es ++ ds) cs) in let j = debt_behind es ds cs in omega arith
-
--- each chain that is kept in some is kept in others
-abbrev Keeps : Chains → Chains → Type 0
-Keeps cs cs' = (es : List Entry) (n : ℕ) → chain_among es cs ≡ Some n → (m : ℕ) × (chain_among es cs' ≡ Some m)
-
-owes_less : (o o' : Option ℕ) (rest rest' : ℕ) → ((n : ℕ) → o ≡ Some n → (m : ℕ) × (o' ≡ Some m)) → rest' ≤ rest →
-    owes o' rest' ≤ owes o rest
-owes_less (Some n) (Some m) rest rest' keeps l = omega arith
-owes_less None (Some m) rest rest' keeps l = omega arith
-owes_less (Some n) None rest rest' keeps l = let k = keeps n refl in absurd (none-some k.0 k.1)
-owes_less None None rest rest' keeps l = omega (arith, l)
-
-debt_less : (es : List Entry) (cs cs' : Chains) → Keeps cs cs' → debt es cs' ≤ debt es cs
-debt_less [] cs cs' keeps = owes_less (chain_among [] cs) (chain_among [] cs') 0 0 (keeps []) (omega arith)
-debt_less (e ∷ es) cs cs' keeps =
-    owes_less (chain_among (e ∷ es) cs) (chain_among (e ∷ es) cs') (debt es cs) (debt es cs') (keeps (e ∷ es)) (debt_less es cs cs' keeps)
-
-equal_itself : (n : ℕ) → (n == n) ≡ true
-equal_itself n = elim (eqb_tells n n) [ inl same ↦ same.0 | inr other ↦ absurd (let apart = other.1 in let never : ⊥ = omega arith in never) ]
-
-same_itself : (es : List Entry) → same_entries es es ≡ true
-same_itself [] = refl
-same_itself (e ∷ es) = ap (λ b. b && same_entries es es) (equal_itself e.key) ∙ same_itself es
-
-one_kept : (es : List Entry) (n : ℕ) (cs : Chains) → Keeps cs ((es, n) ∷ cs)
-one_kept es n cs ds m e = by_same (same_entries ds es)
-  where
-    by_same : (b : Bool) → (i : ℕ) × ((if b then Some n else chain_among ds cs) ≡ Some i)
-    by_same true = (n, refl)
-    by_same false = (m, e)
-
-new_kept : (es : List Entry) (n : ℕ) (cs : Chains) → chain_among es ((es, n) ∷ cs) ≡ Some n
-new_kept es n cs = ap (λ b. if b then Some n else chain_among es cs) (same_itself es)
-
-pub closed_length : (kind : Kind) (k : BlockRest) (s : Building) → length (closed kind k s).blocks ≡ suc (length s.blocks)
-closed_length kind k s = length-append s.blocks (Some (made kind (length s.blocks) k) ∷ []) ∙ add-one (length s.blocks)
+use Rattle.lower_rules.specs.Build.{LoweringFrame, BlockRest, Building, ending, made, closed, reserved, way_of, is_left_by, Lowers, Done, ByStmt, ByTerm, change, nothing, from_changed, back_in, then_build, then_lower, joined, after_either, branches, with_exit, looped, place_of, done_by, chain, unwinding, is_last, act_by, act, panic_drops, drop_one, outer, leave_from, leave, in_scope, exits, jump, panics, tests, test, any_test, taken, replaces}
+use Rattle.lower_rules.proofs.ScopeSizes.{Grew, all, first, grew_all, grew_more, grew_not, grew_on, innermost_grew, operands_add}
+use Rattle.lower_rules.proofs.KnownChains.{chained, closed_length, debt_most, found, unwound_most}
+use Rattle.lower_rules.proofs.DropSizes.{drops_most, jumped_most, left, parted}
 
 pub set_length : {X : Type 0} (xs : List X) (n : ℕ) (x : X) → length (slice_set xs n x) ≡ length xs
 set_length [] n x = refl
 set_length (y ∷ xs) zero x = refl
 set_length (y ∷ xs) (suc n) x = ap suc (set_length xs n x)
-
--- a chain is made at the cost that is left, and is kept then
-pub record Chained (es : List Entry) (s : Building) (r : ℕ × Building) : Type 0 where
-  pub cost : length r.1.blocks ≡ length s.blocks + debt es s.chains
-  pub keeps : Keeps s.chains r.1.chains
-  pub known : (n : ℕ) × (chain_among es r.1.chains ≡ Some n)
-
-keeps_not : (cs : Chains) → Keeps cs cs
-keeps_not cs es n e = (n, e)
-
-keeps_on : (cs cs' cs'' : Chains) → Keeps cs cs' → Keeps cs' cs'' → Keeps cs cs''
-keeps_on cs cs' cs'' a b es n e = let k = a es n e in b es k.0 k.1
-
-kept_chained : (es : List Entry) (k : BlockRest) (s t : Building) (d : ℕ) → length t.blocks ≡ length s.blocks + d → Keeps s.chains t.chains →
-    (length (kept_chain es k t).1.blocks ≡ length s.blocks + suc d) × Keeps s.chains (kept_chain es k t).1.chains × ((n : ℕ) × (chain_among es (kept_chain es k t).1.chains ≡ Some n))
-kept_chained es k s t d e keeps = (
-  (let j = closed_length Kind.Cleanup k t in omega (arith, e)),
-  keeps_on s.chains t.chains ((es, length t.blocks) ∷ t.chains) keeps (one_kept es (length t.blocks) t.chains),
-  (length t.blocks, new_kept es (length t.blocks) t.chains),
-)
 
 -- ---- how many blocks tests take beside the first
 abbrev mutual
@@ -243,128 +40,17 @@ abbrev mutual
   any_size (an_alternative one rest) = suc (tests_size one + any_size rest)
 
 module _ (f : LoweringFrame) where
-  pub chained : (es : List Entry) (s : Building) → Chained es s (chain f es s)
-  chained [] s = by_kept (chain_among [] s.chains) refl
-    where
-      by_kept : (o : Option ℕ) → chain_among [] s.chains ≡ o → Chained [] s (chain_or o s (kept_chain [] (ending Term.Resume 0)))
-      by_kept (Some n) e = record {
-        cost = (let i : length s.blocks ≡ length s.blocks + 0 = omega arith in i) ∙ ap (λ o. length s.blocks + owes o 0) (sym e);
-        keeps = keeps_not s.chains;
-        known = (n, e);
-      }
-      by_kept None e =
-          let k = kept_chained [] (ending Term.Resume 0) s s 0 (omega arith) (keeps_not s.chains) in
-          record { cost = k.0 ∙ ap (λ o. length s.blocks + owes o 0) (sym e); keeps = k.1; known = k.2 }
-  chained (x ∷ es) s = by_kept (chained es s) (chain_among (x ∷ es) s.chains) refl
-    where
-      drop_rest : ℕ × Building → BlockRest
-      drop_rest rest = ending (Term.DropAt (place_of f (entry_site x)) rest.0 Unwind.Abort) x.key
-
-      by_kept : Chained es s (chain f es s) → (o : Option ℕ) → chain_among (x ∷ es) s.chains ≡ o →
-          Chained (x ∷ es) s (chain_or o s (λ s. let rest = chain f es s in kept_chain (x ∷ es) (drop_rest rest) rest.1))
-      by_kept ih (Some n) e = record {
-        cost = (let i : length s.blocks ≡ length s.blocks + 0 = omega arith in i) ∙ ap (λ o. length s.blocks + owes o (debt es s.chains)) (sym e);
-        keeps = keeps_not s.chains;
-        known = (n, e);
-      }
-      by_kept ih None e =
-          let r = chain f es s in
-          let k = kept_chained (x ∷ es) (drop_rest r) s r.1 (debt es s.chains) ih.cost ih.keeps in
-          record { cost = k.0 ∙ ap (λ o. length s.blocks + owes o (debt es s.chains)) (sym e); keeps = k.1; known = k.2 }
-
-  -- where a panic goes on: no more than the chain, of which nothing is left to be made
-  pub unwound : (es : List Entry) (s : Building) →
-      (length (unwind_to f es s).1.blocks ≤ length s.blocks + debt es s.chains) × Keeps s.chains (unwind_to f es s).1.chains × (debt es (unwind_to f es s).1.chains ≤ 1)
-  unwound [] s = (omega arith, keeps_not s.chains, owes_most (chain_among [] s.chains) 0)
-  unwound (x ∷ es) s =
-      let c = chained (x ∷ es) s in
-      ((let i = c.cost in omega arith), c.keeps, (let i = ap (λ o. owes o (debt es (chain f (x ∷ es) s).1.chains)) c.known.1 in omega arith))
-
-  pub unwound_most : (es : List Entry) (s : Building) → length (unwind_to f es s).1.blocks ≤ length s.blocks + suc (length es)
-  unwound_most es s = let u = (unwound es s).0 in let d = debt_most es s.chains in omega arith
-
-  pub drops_most : (S : Scopes) → length (panic_drops f S) ≤ all S
-  drops_most S = let i = needing_most f.items (all_entries S) in let j = all_same S in omega arith
-
-  -- ---- entries are dropped: with what the chain of them all would still cost, three blocks an entry
-  pub dropped : (es : List Entry) (S : Scopes) (k : BlockRest) (s : Building) →
-      length (drop_all f es S k s).1.blocks + debt (es ++ panic_drops f S) (drop_all f es S k s).1.chains ≤ length s.blocks + 3 * length es + debt (panic_drops f S) s.chains
-  dropped [] S k s = omega arith
-  dropped (e ∷ es) S k s =
-      let r = drop_all f es S k s in
-      let ih = dropped es S k s in
-      let c = closed Kind.Plain r.0 r.1 in
-      let j = closed_length Kind.Plain r.0 r.1 in
-      let u = unwound (es ++ panic_drops f S) c in
-      let u0 = u.0 in
-      let u2 = u.2 in
-      let o = owes_most (chain_among (e ∷ es ++ panic_drops f S) (unwind_to f (es ++ panic_drops f S) c).1.chains) (debt (es ++ panic_drops f S) (unwind_to f (es ++ panic_drops f S) c).1.chains) in
-      omega arith
-
-  -- the entries of the innermost scope, and those of the others
-  abbrev pub first : Scopes → ℕ
-  first [] = 0
-  first (x ∷ S) = size x
-
-  pub parted : (Y : Scopes) → all Y ≡ first Y + all (outer f Y)
-  parted [] = refl
-  parted (x ∷ S) = refl
-
-  pub left : (Y : Scopes) (k : BlockRest) (s : Building) → length (leave_from f Y k s).1.blocks ≤ length s.blocks + 3 * first Y + all (outer f Y) + 1
-  left [] k s = omega arith
-  left (x ∷ S) k s =
-      let d = dropped (needing_drop f.items x.entries) S k s in
-      let n = needing_most f.items x.entries in
-      let m = debt_most (panic_drops f S) s.chains in
-      let w = drops_most S in
-      omega arith
-
-  panic_drops_outer : (x : Scope) (S : Scopes) → panic_drops f (x ∷ S) ≡ needing_drop f.items x.pending ++ (needing_drop f.items x.entries ++ panic_drops f S)
-  panic_drops_outer x S =
-      needing_append f.items (x.pending ++ x.entries) (all_entries S)
-      ∙ ap (λ z. z ++ panic_drops f S) (needing_append f.items x.pending x.entries)
-      ∙ append_on (needing_drop f.items x.pending)
-    where
-      append_on : (xs : List Entry) → (xs ++ needing_drop f.items x.entries) ++ panic_drops f S ≡ xs ++ (needing_drop f.items x.entries ++ panic_drops f S)
-      append_on [] = refl
-      append_on (y ∷ xs) = ap (λ z. y ∷ z) (append_on xs)
-
-  jumped : (node : ℕ) (way : JumpWay) (S : Scopes) (s : Building) →
-      length (leaves_to f node way S s).1.blocks + debt (panic_drops f S) (leaves_to f node way S s).1.chains ≤ length s.blocks + 3 * all S + 1
-  jumped node way [] s = let o = owes_most (chain_among [] s.chains) 0 in omega arith
-  jumped node way (x ∷ S) s = by_base (jumped node way S s) (not (nat_lt (length S) way.base))
-    where
-      by_base : length (leaves_to f node way S s).1.blocks + debt (panic_drops f S) (leaves_to f node way S s).1.chains ≤ length s.blocks + 3 * all S + 1 → (b : Bool) →
-          length (leaves_one f b (let rest = leaves_to f node way S s in drop_all f (needing_drop f.items x.entries) S rest.0 rest.1) (ending (Term.Goto way.block) node, s)).1.blocks
-          + debt (panic_drops f (x ∷ S)) (leaves_one f b (let rest = leaves_to f node way S s in drop_all f (needing_drop f.items x.entries) S rest.0 rest.1) (ending (Term.Goto way.block) node, s)).1.chains
-          ≤ length s.blocks + 3 * all (x ∷ S) + 1
-      by_base ih true =
-          let r = leaves_to f node way S s in
-          let es = needing_drop f.items x.entries in
-          let d = dropped es S r.0 r.1 in
-          let n = needing_most f.items x.entries in
-          let p = needing_most f.items x.pending in
-          let cs = (drop_all f es S r.0 r.1).1.chains in
-          let b = debt_behind (needing_drop f.items x.pending) (es ++ panic_drops f S) cs in
-          let e = ap (λ z. debt z cs) (panic_drops_outer x S) in
-          omega (arith, ih)
-      by_base ih false =
-          let m = debt_most (panic_drops f (x ∷ S)) s.chains in
-          let w = drops_most (x ∷ S) in
-          omega arith
-
-  pub jumped_most : (node : ℕ) (way : JumpWay) (S : Scopes) (s : Building) → length (leaves_to f node way S s).1.blocks ≤ length s.blocks + 3 * all S + 1
-  jumped_most node way S s = let j = jumped node way S s in omega arith
-
   -- ---- tests
   mutual
-    test_made : (x : PatternTest) (y n : ℕ) (s : Building) → length (test f x y n s).1.blocks ≤ length s.blocks + test_size x
+    test_made : (x : PatternTest) (y n : ℕ) (s : Building) →
+        length (test f x y n s).1.blocks ≤ length s.blocks + test_size x
     test_made (IsVariant site variant) y n s = omega arith
     test_made (IsNumber site value kind) y n s = omega arith
     test_made (IsTruth site value) y n s = omega arith
     test_made (AnyOf alternatives) y n s = any_made alternatives y n s
 
-    pub tests_made : (x : PatternTests) (y n : ℕ) (s : Building) → length (tests f x y n s).1.blocks ≤ length s.blocks + tests_size x
+    pub tests_made : (x : PatternTests) (y n : ℕ) (s : Building) →
+        length (tests f x y n s).1.blocks ≤ length s.blocks + tests_size x
     tests_made no_test y n s = omega arith
     tests_made (a_test first rest) y n s =
         let r = tests f rest y n s in
@@ -373,7 +59,8 @@ module _ (f : LoweringFrame) where
         let k = test_made first (length r.1.blocks) n (closed Kind.Plain r.0 r.1) in
         omega arith
 
-    any_made : (x : Alternatives) (y n : ℕ) (s : Building) → length (any_test f x y n s).1.blocks ≤ length s.blocks + any_size x
+    any_made : (x : Alternatives) (y n : ℕ) (s : Building) →
+        length (any_test f x y n s).1.blocks ≤ length s.blocks + any_size x
     any_made no_alternative y n s = omega arith
     any_made (an_alternative one rest) y n s =
         let r = any_test f rest y n s in
@@ -404,12 +91,14 @@ module _ (f : LoweringFrame) where
         record { g = x.g; few = omega arith; paid = omega (arith, lb); grew = x.grew; most = omega (arith, lb) }
 
     pub change_costs : (n : ℕ) (g : Scopes → Scopes) → ((S : Scopes) → Grew S (g S) n) → Costs (6 * n) n (change g)
-    change_costs n g grew c S k s w = record { g = n; few = omega arith; paid = omega arith; grew = grew S; most = omega arith }
+    change_costs n g grew c S k s w =
+        record { g = n; few = omega arith; paid = omega arith; grew = grew S; most = omega arith }
 
     pub nothing_costs : Costs 0 0 nothing
     nothing_costs = change_costs 0 (λ S. S) (λ S. grew_not S 0)
 
-    pub changed_costs : (n b e : ℕ) (g : Scopes → Scopes) (P : Lowers) → ((S : Scopes) → Grew S (g S) n) → Costs b e P → Costs (6 * n + b) (n + e) (from_changed g P)
+    pub changed_costs : (n b e : ℕ) (g : Scopes → Scopes) (P : Lowers) → ((S : Scopes) → Grew S (g S) n) →
+        Costs b e P → Costs (6 * n + b) (n + e) (from_changed g P)
     changed_costs n b e g P grew p c S k s w =
         let a = grew_all S (g S) n (grew S) in
         let x = p c (g S) k s (omega arith) in
@@ -418,7 +107,8 @@ module _ (f : LoweringFrame) where
         let most = x.most in
         record { g = n + x.g; few = omega arith; paid = omega arith; grew = grew_on S (g S) (P.after (g S)) n x.g (grew S) x.grew; most = omega arith }
 
-    pub then_costs : (b1 e1 b2 e2 : ℕ) (P Q : Lowers) → Costs b1 e1 P → Costs b2 e2 Q → Costs (b1 + b2) (e1 + e2) (then_lower P Q)
+    pub then_costs : (b1 e1 b2 e2 : ℕ) (P Q : Lowers) → Costs b1 e1 P → Costs b2 e2 Q →
+        Costs (b1 + b2) (e1 + e2) (then_lower P Q)
     then_costs b1 e1 b2 e2 P Q p q c S k s w = by_end P.has_end
       where
         x0 : Cost b1 e1 P c S k s
@@ -430,7 +120,8 @@ module _ (f : LoweringFrame) where
         y : Cost b2 e2 Q c (P.after S) k s
         y = q c (P.after S) k s room
 
-        after : (x : Cost b1 e1 P c S (Q.build c (P.after S) k s).0 (Q.build c (P.after S) k s).1) → Grew S (Q.after (P.after S)) (x.g + y.g)
+        after : (x : Cost b1 e1 P c S (Q.build c (P.after S) k s).0 (Q.build c (P.after S) k s).1) →
+            Grew S (Q.after (P.after S)) (x.g + y.g)
         after x = grew_on S (P.after S) (Q.after (P.after S)) x.g y.g x.grew y.grew
 
         by_end : (z : Bool) → Cost (b1 + b2) (e1 + e2) (record (then_lower P Q) { build = then_build z P Q }) c S k s
@@ -450,15 +141,17 @@ module _ (f : LoweringFrame) where
         record { g = 0; few = omega arith; paid = omega arith; grew = grew_not S 0; most = omega arith }
 
     pub stmt_costs : (x : Bool) (n : ℕ) (stmt : Stmt) → Costs 0 0 (act_by f x n (ByStmt stmt))
-    stmt_costs true n stmt c S k s w = record { g = 0; few = omega arith; paid = omega arith; grew = grew_not S 0; most = omega arith }
-    stmt_costs false n stmt c S k s w = record { g = 0; few = omega arith; paid = omega arith; grew = grew_not S 0; most = omega arith }
+    stmt_costs true n stmt c S k s w =
+        record { g = 0; few = omega arith; paid = omega arith; grew = grew_not S 0; most = omega arith }
+    stmt_costs false n stmt c S k s w =
+        record { g = 0; few = omega arith; paid = omega arith; grew = grew_not S 0; most = omega arith }
 
     -- a block, and the chain of all that a panic may drop
     two_most : (term : ℕ → Unwind → Term) (node : ℕ) (S : Scopes) (k : BlockRest) (s : Building) → all S ≤ W →
         length (unwinding f (term (length s.blocks)) node (panic_drops f S) (closed Kind.Plain k s)).1.blocks ≤ length s.blocks + (W + 2)
     two_most term node S k s w =
-        let u = unwound_most (panic_drops f S) (closed Kind.Plain k s) in
-        let d = drops_most S in
+        let u = unwound_most f (panic_drops f S) (closed Kind.Plain k s) in
+        let d = drops_most f S in
         let j = closed_length Kind.Plain k s in
         omega (arith, w)
 
@@ -474,7 +167,8 @@ module _ (f : LoweringFrame) where
     pub act_costs : (n : ℕ) (action : Action) → Costs (W + 2) 0 (act f n action)
     act_costs n action = by_costs (is_last f action) n (done_by f action)
 
-    pub emptied_costs : (site : EffectSite) → Costs (W + 2) 0 (record nothing { build = λ c S. drop_one f site (panic_drops f S) })
+    pub emptied_costs : (site : EffectSite) →
+        Costs (W + 2) 0 (record nothing { build = λ c S. drop_one f site (panic_drops f S) })
     emptied_costs site c S k s w =
         let m = two_most (Term.DropAt (place_of f site)) site.node S k s (omega (arith, w)) in
         record { g = 0; few = omega arith; paid = omega arith; grew = grew_not S 0; most = omega arith }
@@ -502,11 +196,13 @@ module _ (f : LoweringFrame) where
       pub most : length (P.build c Y k s).1.blocks + 6 * g ≤ length s.blocks + b + x
 
     abbrev pub Leaves : ℕ → ℕ → Lowers → Type 0
-    Leaves b e P = (c : Ways) (Y : Scopes) (k : BlockRest) (s : Building) → all Y + e ≤ W → Leaving (3 * first Y) b e P c Y k s
+    Leaves b e P =
+        (c : Ways) (Y : Scopes) (k : BlockRest) (s : Building) → all Y + e ≤ W → Leaving (3 * first Y) b e P c Y k s
 
-    -- where it is left on two ways
+    -- where it is left f on two ways
     abbrev pub LeavesTwice : ℕ → ℕ → Lowers → Type 0
-    LeavesTwice b e P = (c : Ways) (Y : Scopes) (k : BlockRest) (s : Building) → all Y + e ≤ W → Leaving (6 * first Y) b e P c Y k s
+    LeavesTwice b e P =
+        (c : Ways) (Y : Scopes) (k : BlockRest) (s : Building) → all Y + e ≤ W → Leaving (6 * first Y) b e P c Y k s
 
     pub then_leaves : (b e : ℕ) (P : Lowers) → Costs b e P → Leaves (b + (W + 1)) e (then_lower P (leave f))
     then_leaves b e P p c Y k s w = by_end P.has_end
@@ -516,8 +212,8 @@ module _ (f : LoweringFrame) where
             let r = leave_from f (P.after Y) k s in
             let x = p c Y r.0 r.1 w in
             let o = opened Y (P.after Y) x.g x.grew in
-            let l = left (P.after Y) k s in
-            let i = parted Y in
+            let l = left f (P.after Y) k s in
+            let i = parted f Y in
             let a = grew_all (outer f Y) (outer f (P.after Y)) o.b o.around in
             let few = x.few in let paid = x.paid in let most = x.most in let sum = o.sum in let inside = o.inside in
             record { g = o.b; few = omega arith; paid = omega arith; grew = o.around; most = omega (arith, w) }
@@ -529,14 +225,15 @@ module _ (f : LoweringFrame) where
 
     pub leaves_then : (b e : ℕ) (Q : Lowers) → Costs b e Q → Leaves (b + (W + 1)) e (then_lower (leave f) Q)
     leaves_then b e Q q c Y k s w =
-        let i = parted Y in
+        let i = parted f Y in
         let y = q c (outer f Y) k s (omega (arith, w)) in
         let r = Q.build c (outer f Y) k s in
-        let l = left Y r.0 r.1 in
+        let l = left f Y r.0 r.1 in
         let few = y.few in let paid = y.paid in let most = y.most in
         record { g = y.g; few = omega arith; paid = omega arith; grew = y.grew; most = omega (arith, w) }
 
-    pub scope_costs : (b e node : ℕ) (own : Bool) (P : Lowers) → Costs b e P → Costs (W + 1 + b) e (in_scope f node own P)
+    pub scope_costs : (b e node : ℕ) (own : Bool) (P : Lowers) → Costs b e P →
+        Costs (W + 1 + b) e (in_scope f node own P)
     scope_costs b e node own P p c S k s w =
         let x = then_leaves b e P p c (with_scope node own S) k s (omega (arith, w)) in
         let few = x.few in let paid = x.paid in let most = x.most in
@@ -546,15 +243,18 @@ module _ (f : LoweringFrame) where
     abbrev pub TestCosts : ℕ → (ℕ → ℕ → Building → BlockRest × Building) → Type 0
     TestCosts n test = (y m : ℕ) (s : Building) → length (test y m s).1.blocks ≤ length s.blocks + n
 
-    pub joined_most : (x : Bool) (node : ℕ) (k : BlockRest) (s : Building) → length (joined x node k s).1.blocks ≤ length s.blocks + 1
+    pub joined_most : (x : Bool) (node : ℕ) (k : BlockRest) (s : Building) →
+        length (joined x node k s).1.blocks ≤ length s.blocks + 1
     joined_most true node k s = let j = closed_length Kind.Plain k s in omega arith
     joined_most false node k s = omega arith
 
-    pub either_grew : (x : Bool) (P Q : Lowers) (S Y : Scopes) (g h : ℕ) → Grew S (P.after Y) g → Grew S (Q.after Y) h → Grew S (after_either x P Q Y) (g + h)
+    pub either_grew : (x : Bool) (P Q : Lowers) (S Y : Scopes) (g h : ℕ) → Grew S (P.after Y) g →
+        Grew S (Q.after Y) h → Grew S (after_either x P Q Y) (g + h)
     either_grew true P Q S Y g h p q = grew_more S (P.after Y) g (g + h) (omega arith) p
     either_grew false P Q S Y g h p q = grew_more S (Q.after Y) h (g + h) (omega arith) q
 
-    pub branches_costs : (n b1 e1 b2 e2 node : ℕ) (test : ℕ → ℕ → Building → BlockRest × Building) (P Q : Lowers) → TestCosts n test → Costs b1 e1 P → Costs b2 e2 Q →
+    pub branches_costs : (n b1 e1 b2 e2 node : ℕ) (test : ℕ → ℕ → Building → BlockRest × Building) (P Q : Lowers) →
+        TestCosts n test → Costs b1 e1 P → Costs b2 e2 Q →
         Costs (n + 3 + (b1 + b2)) (e1 + e2) (branches node test P Q)
     branches_costs n b1 e1 b2 e2 node test P Q t p q c S k s w =
         let j = joined (P.has_end || Q.has_end) node k s in
@@ -574,7 +274,8 @@ module _ (f : LoweringFrame) where
         let m2 = y.most in
         record { g = x.g + y.g; few = omega arith; paid = omega arith; grew = either_grew P.has_end P Q S S x.g y.g x.grew y.grew; most = omega arith }
 
-    pub branches_leave : (n b1 e1 b2 e2 node : ℕ) (test : ℕ → ℕ → Building → BlockRest × Building) (P Q : Lowers) → TestCosts n test → Leaves b1 e1 P → Leaves b2 e2 Q →
+    pub branches_leave : (n b1 e1 b2 e2 node : ℕ) (test : ℕ → ℕ → Building → BlockRest × Building) (P Q : Lowers) →
+        TestCosts n test → Leaves b1 e1 P → Leaves b2 e2 Q →
         LeavesTwice (n + 3 + (b1 + b2)) (e1 + e2) (branches node test P Q)
     branches_leave n b1 e1 b2 e2 node test P Q t p q c Y k s w =
         let j = joined (P.has_end || Q.has_end) node k s in
@@ -589,8 +290,9 @@ module _ (f : LoweringFrame) where
         let f1 = x.few in let f2 = y.few in let p1 = x.paid in let p2 = y.paid in let m1 = x.most in let m2 = y.most in
         record { g = x.g + y.g; few = omega arith; paid = omega arith; grew = either_grew P.has_end P Q (outer f Y) Y x.g y.g x.grew y.grew; most = omega arith }
 
-    -- a scope that is entered, and left on two ways
-    pub entered_costs : (b1 e1 b2 e2 node : ℕ) (own : Bool) (P R : Lowers) → Costs b1 e1 P → LeavesTwice b2 e2 R → Costs (b1 + b2) (e1 + e2) (from_changed (with_scope node own) (then_lower P R))
+    -- a scope that is entered, and left f on two ways
+    pub entered_costs : (b1 e1 b2 e2 node : ℕ) (own : Bool) (P R : Lowers) → Costs b1 e1 P → LeavesTwice b2 e2 R →
+        Costs (b1 + b2) (e1 + e2) (from_changed (with_scope node own) (then_lower P R))
     entered_costs b1 e1 b2 e2 node own P R p r c S k s w = by_end P.has_end
       where
         inner : Scopes
@@ -627,7 +329,7 @@ module _ (f : LoweringFrame) where
     pub looped_costs : (b e id : ℕ) (turn : Lowers) → Costs b e turn → Costs (2 + b) e (looped id turn)
     looped_costs b e id turn p c S k s w =
         let start = with_exit (is_left_by id turn.jumps) k s in
-        let again = ending (Term.Goto (length start.blocks)) id in
+        let again = ending (Term.Goto (length start.blocks)) 0 in
         let inside = ways_in_loop id (length S) (length s.blocks) (length start.blocks) (is_left_by id turn.jumps) c in
         let em = exit_most (is_left_by id turn.jumps) k s in
         let rm = length-append start.blocks (None ∷ []) in
@@ -639,14 +341,17 @@ module _ (f : LoweringFrame) where
 
     exits_costs : (node : ℕ) (exit : Exit) → Costs (3 * W + 1) 0 (exits f node exit)
     exits_costs node exit c S k s w =
-        let j = jumped_most node (way_of exit c) S s in
+        let j = jumped_most f node (way_of exit c) S s in
         record { g = 0; few = omega arith; paid = omega arith; grew = grew_not S 0; most = omega (arith, w) }
 
-    pub jump_costs : (b e node : ℕ) (exit : Exit) (P : Lowers) → Costs b e P → Costs (b + (3 * W + 1)) (e + 0) (jump f node exit P)
+    pub jump_costs : (b e node : ℕ) (exit : Exit) (P : Lowers) → Costs b e P →
+        Costs (b + (3 * W + 1)) (e + 0) (jump f node exit P)
     jump_costs b e node exit P p = then_costs b e (3 * W + 1) 0 P (exits f node exit) p (exits_costs node exit)
 
-    pub panic_most : (term : Unwind → Term) (node : ℕ) (S : Scopes) (s : Building) → all S ≤ W → length (unwinding f term node (panic_drops f S) s).1.blocks ≤ length s.blocks + (W + 1)
-    panic_most term node S s w = let u = unwound_most (panic_drops f S) s in let d = drops_most S in omega (arith, w)
+    pub panic_most : (term : Unwind → Term) (node : ℕ) (S : Scopes) (s : Building) → all S ≤ W →
+        length (unwinding f term node (panic_drops f S) s).1.blocks ≤ length s.blocks + (W + 1)
+    panic_most term node S s w =
+        let u = unwound_most f (panic_drops f S) s in let d = drops_most f S in omega (arith, w)
 
     pub panics_costs : (node : ℕ) (why : Why) → Costs (W + 1) 0 (panics f node why)
     panics_costs node why c S k s w =
@@ -666,9 +371,9 @@ module _ (f : LoweringFrame) where
         let on = closed Kind.Plain put s in
         let j = closed_length Kind.Plain put s in
         let es = panic_drops f (taken f (key ∷ []) S) in
-        let ch = (chained es on).cost in
-        let d = debt_most es on.chains in
-        let m = drops_most (taken f (key ∷ []) S) in
+        let ch = (chained f es on).cost in
+        let d = debt_most es on.shared in
+        let m = drops_most f (taken f (key ∷ []) S) in
         let a = grew_all S (taken f (key ∷ []) S) 0 (taken_grew (key ∷ []) S) in
         let down = chain f es on in
         let unwound_rest = build.with_line (build.put_into f site key) site.node (ending (Term.Goto down.0) site.node) in

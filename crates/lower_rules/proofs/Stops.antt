@@ -121,12 +121,7 @@ module _ (f : LoweringFrame) (own : ℕ → Type 0) where
   follows (effects.Print operand) = free (Stmt.Print (operand_of f operand)) (λ stmts term. tt) (is_last f (effects.Print operand))
   follows (effects.Forget operand) = free (Stmt.Forget (operand_of f operand)) (λ stmts term. tt) (is_last f (effects.Forget operand))
   follows (effects.Free box) = free (Stmt.Free (place_of f box)) (λ stmts term. tt) (is_last f (effects.Free box))
-  follows (effects.Compute to operator left right) = tt
-  follows (effects.Negate to operand) = tt
-  follows (effects.Bounds index count) = tt
-  follows (effects.Call to body args) = tt
-  follows (effects.CallVirtual to trait_no method args) = tt
-  follows (effects.Ask to) = tt
+  follows other = tt
 
   -- the lines of a block copy as they may, and no line stands behind a store of a value of type `!`
   abbrev pub BlockStops : List Stmt → Term → Type 0

@@ -60,13 +60,6 @@ mutual
   node_names c standing (node id at ty by form) = λ h. row_names c id ty form h.1
 
   row_names : (c : Context) (id : ℕ) (ty : TyId) (form : Form) → Holds (typing.row c id ty form) → names_loops_in (around c) id form ≡ true
-  row_names c id ty (tree.Number value) = λ h. refl
-  row_names c id ty (tree.Truth value) = λ h. refl
-  row_names c id ty tree.UnitValue = λ h. refl
-  row_names c id ty (tree.Variable key) = λ h. refl
-  row_names c id ty (tree.Captured closure part name) = λ h. refl
-  row_names c id ty tree.Ask = λ h. refl
-  row_names c id ty tree.Panic = λ h. refl
   row_names c id ty (tree.Field base part) = λ h. node_names c _ base h.0
   row_names c id ty (tree.Index base index count) = λ h. both _ _ (node_names c _ base h.0) (node_names c _ index h.1.0)
   row_names c id ty (tree.Deref base) = λ h. node_names c _ base h.0
@@ -113,15 +106,7 @@ mutual
   row_names c id ty (tree.Let p value) = λ h. absurd (untrue h)
   row_names c id ty (tree.Evaluate expression) = λ h. absurd (untrue h)
   row_names c id ty (tree.Arm p guard body) = λ h. absurd (untrue h)
-  row_names c id ty tree.Wildcard = λ h. refl
-  row_names c id ty (tree.Binding name) = λ h. refl
-  row_names c id ty (tree.NumberPattern value) = λ h. refl
-  row_names c id ty (tree.TruthPattern value) = λ h. refl
-  row_names c id ty (tree.StructPattern fields) = λ h. refl
-  row_names c id ty (tree.VariantPattern variant is_test fields) = λ h. refl
-  row_names c id ty (tree.TuplePattern parts) = λ h. refl
-  row_names c id ty (tree.ArrayPattern elements) = λ h. refl
-  row_names c id ty (tree.OrPattern alternatives) = λ h. refl
+  row_names c id ty other = λ h. refl
 
   carried_names : (c : Context) (a : LoopAround) (value : MaybeNode) → Holds (typing.carries c a value) → if_any_names (around c) value ≡ true
   carried_names c a absent = λ h. refl
@@ -171,58 +156,7 @@ mutual
 
   arm_names : (c : Context) (m : Matched) (want : TyId) (n : Node) → Holds (typing.arm c m want n) → names_loops (around c) n ≡ true
   arm_names c m want (node id at ty by (tree.Arm p guard body)) = λ h. both _ _ (guard_names _ guard h.1.1.1.0) (node_names _ _ body h.1.1.1.1.0)
-  arm_names c m want (node id at ty by (tree.Number value)) = λ h. absurd (untrue h)
-  arm_names c m want (node id at ty by (tree.Truth value)) = λ h. absurd (untrue h)
-  arm_names c m want (node id at ty by tree.UnitValue) = λ h. absurd (untrue h)
-  arm_names c m want (node id at ty by (tree.Variable key)) = λ h. absurd (untrue h)
-  arm_names c m want (node id at ty by (tree.Captured closure part name)) = λ h. absurd (untrue h)
-  arm_names c m want (node id at ty by (tree.Field base part)) = λ h. absurd (untrue h)
-  arm_names c m want (node id at ty by (tree.Index base index count)) = λ h. absurd (untrue h)
-  arm_names c m want (node id at ty by (tree.Deref base)) = λ h. absurd (untrue h)
-  arm_names c m want (node id at ty by (tree.Not operand)) = λ h. absurd (untrue h)
-  arm_names c m want (node id at ty by (tree.Negate operand)) = λ h. absurd (untrue h)
-  arm_names c m want (node id at ty by (tree.Arithmetic operator left right)) = λ h. absurd (untrue h)
-  arm_names c m want (node id at ty by (tree.Comparison operator left right)) = λ h. absurd (untrue h)
-  arm_names c m want (node id at ty by (tree.And left right)) = λ h. absurd (untrue h)
-  arm_names c m want (node id at ty by (tree.Or left right)) = λ h. absurd (untrue h)
-  arm_names c m want (node id at ty by (tree.Assign place value)) = λ h. absurd (untrue h)
-  arm_names c m want (node id at ty by (tree.Call body args)) = λ h. absurd (untrue h)
-  arm_names c m want (node id at ty by (tree.MethodCall body receiver args)) = λ h. absurd (untrue h)
-  arm_names c m want (node id at ty by (tree.VirtualCall trait_no method receiver args)) = λ h. absurd (untrue h)
-  arm_names c m want (node id at ty by (tree.ClosureCall body callee args)) = λ h. absurd (untrue h)
-  arm_names c m want (node id at ty by (tree.Make adt variant fields)) = λ h. absurd (untrue h)
-  arm_names c m want (node id at ty by (tree.Tuple parts)) = λ h. absurd (untrue h)
-  arm_names c m want (node id at ty by (tree.Array elements)) = λ h. absurd (untrue h)
-  arm_names c m want (node id at ty by (tree.Closure closure captures)) = λ h. absurd (untrue h)
-  arm_names c m want (node id at ty by (tree.NewBox content)) = λ h. absurd (untrue h)
-  arm_names c m want (node id at ty by (tree.Print operand)) = λ h. absurd (untrue h)
-  arm_names c m want (node id at ty by tree.Ask) = λ h. absurd (untrue h)
-  arm_names c m want (node id at ty by (tree.DropValue operand)) = λ h. absurd (untrue h)
-  arm_names c m want (node id at ty by (tree.Forget operand)) = λ h. absurd (untrue h)
-  arm_names c m want (node id at ty by tree.Panic) = λ h. absurd (untrue h)
-  arm_names c m want (node id at ty by (tree.Borrow unique base)) = λ h. absurd (untrue h)
-  arm_names c m want (node id at ty by (tree.Unsize trait_no operand)) = λ h. absurd (untrue h)
-  arm_names c m want (node id at ty by (tree.Block stmts tail)) = λ h. absurd (untrue h)
-  arm_names c m want (node id at ty by (tree.Let p value)) = λ h. absurd (untrue h)
-  arm_names c m want (node id at ty by (tree.Evaluate expression)) = λ h. absurd (untrue h)
-  arm_names c m want (node id at ty by (tree.If condition body otherwise)) = λ h. absurd (untrue h)
-  arm_names c m want (node id at ty by (tree.IfLet p scrutinee body otherwise)) = λ h. absurd (untrue h)
-  arm_names c m want (node id at ty by (tree.Match scrutinee arms)) = λ h. absurd (untrue h)
-  arm_names c m want (node id at ty by (tree.Loop body)) = λ h. absurd (untrue h)
-  arm_names c m want (node id at ty by (tree.While condition body)) = λ h. absurd (untrue h)
-  arm_names c m want (node id at ty by (tree.WhileLet p scrutinee body)) = λ h. absurd (untrue h)
-  arm_names c m want (node id at ty by (tree.Break loop value)) = λ h. absurd (untrue h)
-  arm_names c m want (node id at ty by (tree.Continue loop)) = λ h. absurd (untrue h)
-  arm_names c m want (node id at ty by (tree.Return value)) = λ h. absurd (untrue h)
-  arm_names c m want (node id at ty by tree.Wildcard) = λ h. absurd (untrue h)
-  arm_names c m want (node id at ty by (tree.Binding name)) = λ h. absurd (untrue h)
-  arm_names c m want (node id at ty by (tree.NumberPattern value)) = λ h. absurd (untrue h)
-  arm_names c m want (node id at ty by (tree.TruthPattern value)) = λ h. absurd (untrue h)
-  arm_names c m want (node id at ty by (tree.StructPattern fields)) = λ h. absurd (untrue h)
-  arm_names c m want (node id at ty by (tree.VariantPattern variant is_test fields)) = λ h. absurd (untrue h)
-  arm_names c m want (node id at ty by (tree.TuplePattern parts)) = λ h. absurd (untrue h)
-  arm_names c m want (node id at ty by (tree.ArrayPattern elements)) = λ h. absurd (untrue h)
-  arm_names c m want (node id at ty by (tree.OrPattern alternatives)) = λ h. absurd (untrue h)
+  arm_names c m want (node id at ty by other) = λ h. absurd (untrue h)
 
   statements_name : (c : Context) (ns : Nodes) (behind : Context → Claim) (z : Bool) → ((d : Context) → around d ≡ around c → Holds (behind d) → z ≡ true) →
       Holds (typing.statements c ns behind) → all_name_loops (around c) ns && z ≡ true
@@ -233,57 +167,7 @@ mutual
   statement_names c id (tree.Let p absent) = λ h. refl
   statement_names c id (tree.Let p (present value)) = λ h. node_names c _ value h.0
   statement_names c id (tree.Evaluate expression) = λ h. node_names c _ expression h
-  statement_names c id (tree.Number value) = λ h. absurd (untrue h)
-  statement_names c id (tree.Truth value) = λ h. absurd (untrue h)
-  statement_names c id tree.UnitValue = λ h. absurd (untrue h)
-  statement_names c id (tree.Variable key) = λ h. absurd (untrue h)
-  statement_names c id (tree.Captured closure part name) = λ h. absurd (untrue h)
-  statement_names c id (tree.Field base part) = λ h. absurd (untrue h)
-  statement_names c id (tree.Index base index count) = λ h. absurd (untrue h)
-  statement_names c id (tree.Deref base) = λ h. absurd (untrue h)
-  statement_names c id (tree.Not operand) = λ h. absurd (untrue h)
-  statement_names c id (tree.Negate operand) = λ h. absurd (untrue h)
-  statement_names c id (tree.Arithmetic operator left right) = λ h. absurd (untrue h)
-  statement_names c id (tree.Comparison operator left right) = λ h. absurd (untrue h)
-  statement_names c id (tree.And left right) = λ h. absurd (untrue h)
-  statement_names c id (tree.Or left right) = λ h. absurd (untrue h)
-  statement_names c id (tree.Assign place value) = λ h. absurd (untrue h)
-  statement_names c id (tree.Call body args) = λ h. absurd (untrue h)
-  statement_names c id (tree.MethodCall body receiver args) = λ h. absurd (untrue h)
-  statement_names c id (tree.VirtualCall trait_no method receiver args) = λ h. absurd (untrue h)
-  statement_names c id (tree.ClosureCall body callee args) = λ h. absurd (untrue h)
-  statement_names c id (tree.Make adt variant fields) = λ h. absurd (untrue h)
-  statement_names c id (tree.Tuple parts) = λ h. absurd (untrue h)
-  statement_names c id (tree.Array elements) = λ h. absurd (untrue h)
-  statement_names c id (tree.Closure closure captures) = λ h. absurd (untrue h)
-  statement_names c id (tree.NewBox content) = λ h. absurd (untrue h)
-  statement_names c id (tree.Print operand) = λ h. absurd (untrue h)
-  statement_names c id tree.Ask = λ h. absurd (untrue h)
-  statement_names c id (tree.DropValue operand) = λ h. absurd (untrue h)
-  statement_names c id (tree.Forget operand) = λ h. absurd (untrue h)
-  statement_names c id tree.Panic = λ h. absurd (untrue h)
-  statement_names c id (tree.Borrow unique base) = λ h. absurd (untrue h)
-  statement_names c id (tree.Unsize trait_no operand) = λ h. absurd (untrue h)
-  statement_names c id (tree.Block stmts tail) = λ h. absurd (untrue h)
-  statement_names c id (tree.If condition body otherwise) = λ h. absurd (untrue h)
-  statement_names c id (tree.IfLet p scrutinee body otherwise) = λ h. absurd (untrue h)
-  statement_names c id (tree.Match scrutinee arms) = λ h. absurd (untrue h)
-  statement_names c id (tree.Arm p guard body) = λ h. absurd (untrue h)
-  statement_names c id (tree.Loop body) = λ h. absurd (untrue h)
-  statement_names c id (tree.While condition body) = λ h. absurd (untrue h)
-  statement_names c id (tree.WhileLet p scrutinee body) = λ h. absurd (untrue h)
-  statement_names c id (tree.Break loop value) = λ h. absurd (untrue h)
-  statement_names c id (tree.Continue loop) = λ h. absurd (untrue h)
-  statement_names c id (tree.Return value) = λ h. absurd (untrue h)
-  statement_names c id tree.Wildcard = λ h. absurd (untrue h)
-  statement_names c id (tree.Binding name) = λ h. absurd (untrue h)
-  statement_names c id (tree.NumberPattern value) = λ h. absurd (untrue h)
-  statement_names c id (tree.TruthPattern value) = λ h. absurd (untrue h)
-  statement_names c id (tree.StructPattern fields) = λ h. absurd (untrue h)
-  statement_names c id (tree.VariantPattern variant is_test fields) = λ h. absurd (untrue h)
-  statement_names c id (tree.TuplePattern parts) = λ h. absurd (untrue h)
-  statement_names c id (tree.ArrayPattern elements) = λ h. absurd (untrue h)
-  statement_names c id (tree.OrPattern alternatives) = λ h. absurd (untrue h)
+  statement_names c id other = λ h. absurd (untrue h)
 
 inside_names : (items : ItemTable) (closure : Option ClosureDef) (body : BodyTree) (params : List ParamTree) → Holds (is_inside items closure body params) → names_its_loops body ≡ true
 inside_names items None body params h = node_names _ _ body.block h.0

@@ -11,7 +11,7 @@ use Rattle.store_model.specs.Effects.{EffectSite, Stuck, Out, Go, Unwind, Halts,
 use Rattle.store_model.specs.Values.Datum.{Datum, Number, Box, Address}
 use Rattle.store_model.specs.Values.Wholeness.{serials}
 use Rattle.lower_rules.proofs.FreeWalks.{halting_no_unwind}
-use Rattle.lower_rules.proofs.Simulation.{NoUnwind}
+use Rattle.lower_rules.proofs.TiedWalks.{NoUnwind}
 
 step_settled : {A : Type 0} (o : Option A) (next : A → Out State) (w : State) → ((a : A) → NoUnwind (next a)) → NoUnwind (or_stuck o next w)
 step_settled None next w n = tt

@@ -11,21 +11,14 @@ use Rattle.cfg_meaning.specs.Actions.{site_of, operand_of, operands_of, action_o
 use Rattle.cfg_meaning.specs.Walk.{Next, stuck_in, ◌>>=◌, fork, branch, renamed, renamed_choice, naming, unwinding, stmts_do, acts, term_does, block_does, by_kind, if_there, does_block, does_turn, walk}
 use Rattle.store_model.proofs.Effects.Laws.{Laws}
 use Rattle.store_model.specs.Effects as effects
-use Rattle.store_model.specs.Effects.{Halt, Aborted, OutOfTicks, Stuck, StuckAt, BadUse, BadStore, NoChoice, Infeasible, Unreachable, Out, Go, Unwind as Unwinds, Halts, Choice, Yes, No, Neither, Effects}
-use Rattle.lower_rules.proofs.Simulation.{Walks}
+use Rattle.store_model.specs.Effects.{Halt, Aborted, Out, Go, Unwind as Unwinds, Halts, Choice, Yes, No, Neither, Effects}
+use Rattle.lower_rules.proofs.TiedWalks.{Walks}
 use Rattle.lower_rules.specs.CodeLaws.{without_place}
 use Rattle.lower_rules.specs.Spots.{CodeTarget}
 
 stuck_without_place : (number block : ℕ) (halt : Halt) → without_place (stuck_in number block halt) ≡ without_place halt
 stuck_without_place number block Aborted = refl
-stuck_without_place number block OutOfTicks = refl
-stuck_without_place number block Stuck = refl
-stuck_without_place number block (StuckAt other at) = refl
-stuck_without_place number block (BadUse site) = refl
-stuck_without_place number block (BadStore site) = refl
-stuck_without_place number block NoChoice = refl
-stuck_without_place number block Infeasible = refl
-stuck_without_place number block Unreachable = refl
+stuck_without_place number block others = refl
 
 module _ {W : Type 0} (number at : ℕ) where
   go_renamed : (o : Out W) (f : W → Out W) →

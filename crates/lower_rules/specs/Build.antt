@@ -47,11 +47,19 @@ pub record MadeBlock : Type 0 where
   pub block : Block
   pub nodes : List ℕ
 
--- The blocks so far, none where a number is given out and the block is still to be made; and the blocks that drop lists
--- of entries while a panic unwinds, each of which is made once.
+-- A block to which more than one place may lead, told by how it ends, which is all that there is of it: a panic leaves
+-- the body; a block is entered by a jump; or what stands under a key is dropped, and another block is entered. A drop
+-- out of which a panic aborts is one while a panic unwinds.
+pub data SharedEnd : Type 0 where
+  Resumes : SharedEnd
+  GoesTo : (block : ℕ) → SharedEnd
+  DropsThen : (key onward : ℕ) (unwind : Unwind) → SharedEnd
+
+-- The blocks so far, none where a number is given out and the block is still to be made; and those of them that are
+-- shared, each of which is made once, listed by the key that they drop.
 pub record Building : Type 0 where
   pub blocks : List (Option MadeBlock)
-  pub chains : List (List Entry × ℕ)
+  pub shared : ℕ → List (SharedEnd × ℕ)
 
 abbrev pub ending : Term → ℕ → BlockRest
 ending term node = record { lines = []; term = term; node = node }
@@ -83,26 +91,50 @@ reserved s = record s { blocks = s.blocks ++ None ∷ [] }
 abbrev pub filled : Kind → ℕ → BlockRest → Building → Building
 filled kind n k s = record s { blocks = slice_set s.blocks n (Some (made kind (next_number s) k)) }
 
--- Chains of drops while a panic unwinds.
+-- Blocks that are shared.
 
-abbrev pub same_entries : List Entry → List Entry → Bool
-same_entries [] [] = true
-same_entries [] (e ∷ es) = false
-same_entries (e ∷ es) [] = false
-same_entries (e ∷ es) (d ∷ ds) = (e.key == d.key) && same_entries es ds
+abbrev pub same_unwind : Unwind → Unwind → Bool
+same_unwind (Unwind.Block n) (Unwind.Block m) = n == m
+same_unwind (Unwind.Block n) Unwind.Resume = false
+same_unwind (Unwind.Block n) Unwind.Abort = false
+same_unwind Unwind.Resume (Unwind.Block m) = false
+same_unwind Unwind.Resume Unwind.Resume = true
+same_unwind Unwind.Resume Unwind.Abort = false
+same_unwind Unwind.Abort (Unwind.Block m) = false
+same_unwind Unwind.Abort Unwind.Resume = false
+same_unwind Unwind.Abort Unwind.Abort = true
 
-abbrev pub chain_among : List Entry → List (List Entry × ℕ) → Option ℕ
-chain_among es [] = None
-chain_among es (c ∷ chains) = if same_entries es c.0 then Some c.1 else chain_among es chains
+abbrev pub same_end : SharedEnd → SharedEnd → Bool
+same_end Resumes Resumes = true
+same_end Resumes (GoesTo m) = false
+same_end Resumes (DropsThen d m w) = false
+same_end (GoesTo n) Resumes = false
+same_end (GoesTo n) (GoesTo m) = n == m
+same_end (GoesTo n) (DropsThen d m w) = false
+same_end (DropsThen e n u) Resumes = false
+same_end (DropsThen e n u) (GoesTo m) = false
+same_end (DropsThen e n u) (DropsThen d m w) = (e == d) && ((n == m) && same_unwind u w)
 
-abbrev pub kept_chain : List Entry → BlockRest → Building → ℕ × Building
-kept_chain es k s =
-    (next_number s, record (closed Kind.Cleanup k s) { chains = (es, next_number s) ∷ s.chains })
+abbrev pub end_among : SharedEnd → List (SharedEnd × ℕ) → Option ℕ
+end_among e [] = None
+end_among e (c ∷ shared) = if same_end e c.0 then Some c.1 else end_among e shared
 
--- the chain that stands already, or a new one
-abbrev pub chain_or : Option ℕ → Building → (Building → ℕ × Building) → ℕ × Building
-chain_or (Some n) s make = (n, s)
-chain_or None s make = make s
+-- where a shared block is listed
+abbrev pub listed_at : SharedEnd → ℕ
+listed_at Resumes = 0
+listed_at (GoesTo block) = 0
+listed_at (DropsThen key onward unwind) = key
+
+abbrev pub with_shared : SharedEnd → ℕ → Building → Building
+with_shared e n s = record s { shared = λ i. if i == listed_at e then (e, n) ∷ s.shared i else s.shared i }
+
+-- the block that a rest enters, where it does nothing else and stands for no node
+abbrev pub enters : List NodeLine → Term → Option ℕ
+enters [] (Term.Goto block) = Some block
+enters lines term = None
+
+abbrev pub jump_of : BlockRest → Option ℕ
+jump_of k = if k.node == 0 then enters k.lines k.term else None
 
 -- Jumps, by the exits that they take.
 
@@ -214,7 +246,7 @@ looped id turn = record {
   after = λ S. S;
   build = λ c S k s.
       let start = with_exit (is_left_by id turn.jumps) k s in
-      let again = ending (Term.Goto (next_number start)) id in
+      let again = ending (Term.Goto (next_number start)) 0 in
       let inside = ways_in_loop id (length S) (next_number s) (next_number start) (is_left_by id turn.jumps) c in
       let code = turn.build inside S again (reserved start) in
       (again, filled Kind.Turn (next_number start) code.0 code.1);
@@ -271,13 +303,29 @@ module _ (f : LoweringFrame) where
   abbrev pub panic_drops : Scopes → List Entry
   panic_drops S = needing_drop f.items (all_entries S)
 
+  abbrev pub end_kind : SharedEnd → Kind
+  end_kind Resumes = Kind.Cleanup
+  end_kind (GoesTo block) = Kind.Plain
+  end_kind (DropsThen key onward Unwind.Abort) = Kind.Cleanup
+  end_kind (DropsThen key onward unwind) = Kind.Plain
+
+  abbrev pub end_rest : SharedEnd → BlockRest
+  end_rest Resumes = ending Term.Resume 0
+  end_rest (GoesTo block) = ending (Term.Goto block) 0
+  end_rest (DropsThen key onward unwind) = ending (Term.DropAt (place_of (site_of_key key)) onward unwind) key
+
+  abbrev pub shared_or : Option ℕ → SharedEnd → Building → ℕ × Building
+  shared_or (Some n) e s = (n, s)
+  shared_or None e s = (next_number s, with_shared e (next_number s) (closed (end_kind e) (end_rest e) s))
+
+  -- the block that ends so, if it stands already, or a new one
+  abbrev pub share : SharedEnd → Building → ℕ × Building
+  share e s = shared_or (end_among e (s.shared (listed_at e))) e s
+
   -- the block that drops these entries while a panic unwinds, and then leaves the body
   abbrev pub chain : List Entry → Building → ℕ × Building
-  chain [] s = chain_or (chain_among [] s.chains) s (kept_chain [] (ending Term.Resume 0))
-  chain (e ∷ es) s =
-      chain_or (chain_among (e ∷ es) s.chains) s
-      (λ s. let rest = chain es s in
-      kept_chain (e ∷ es) (ending (Term.DropAt (place_of (entry_site e)) rest.0 Unwind.Abort) e.key) rest.1)
+  chain [] s = share Resumes s
+  chain (e ∷ es) s = let rest = chain es s in share (DropsThen e.key rest.0 Unwind.Abort) rest.1
 
   -- where a panic goes on
   abbrev pub unwind_to : List Entry → Building → Unwind × Building
@@ -324,9 +372,30 @@ module _ (f : LoweringFrame) where
   outer [] = []
   outer (s ∷ S) = S
 
+  -- the shared block from which on entries are dropped, and then a block is entered
+  abbrev pub drops_before : List Entry → Scopes → ℕ × Building → ℕ × Building
+  drops_before [] S to = to
+  drops_before (e ∷ es) S to =
+      let rest = drops_before es S to in
+      let down = unwind_to (es ++ panic_drops S) rest.1 in
+      share (DropsThen e.key rest.0 down.0) down.1
+
+  -- entries are dropped and then a block is entered, to which other places lead as well: the youngest is dropped here,
+  -- the others in blocks that are shared
+  abbrev pub drops_to : List Entry → Scopes → (to : ℕ × Building) (none : BlockRest × Building) → BlockRest × Building
+  drops_to [] S to none = none
+  drops_to (e ∷ es) S to none =
+      let rest = drops_before es S to in
+      unwinding (Term.DropAt (place_of (entry_site e)) rest.0) e.key (es ++ panic_drops S) rest.1
+
+  abbrev pub leave_by : Option ℕ → List Entry → Scopes → BlockRest → Building → BlockRest × Building
+  leave_by (Some block) es S k s = drops_to es S (share (GoesTo block) s) (k, s)
+  leave_by None es S k s = drop_all es S k s
+
+  -- what stands behind a scope that is left may be a jump
   abbrev pub leave_from : Scopes → BlockRest → Building → BlockRest × Building
   leave_from [] k s = (k, s)
-  leave_from (scope ∷ S) k s = drop_all (needing_drop f.items scope.entries) S k s
+  leave_from (scope ∷ S) k s = leave_by (jump_of k) (needing_drop f.items scope.entries) S k s
 
   abbrev pub leave : Lowers
   leave = record { has_end = true; jumps = []; after = outer; build = λ c. leave_from }
@@ -337,16 +406,24 @@ module _ (f : LoweringFrame) where
   abbrev pub in_scope : ℕ → Bool → Lowers → Lowers
   in_scope node for_temporaries P = scoped (with_scope node for_temporaries) P
 
-  abbrev pub leaves_one : Bool → (more done : BlockRest × Building) → BlockRest × Building
+  abbrev pub leaves_one : {A : Type 0} → Bool → (more done : A) → A
   leaves_one true more done = more
   leaves_one false more done = done
+
+  -- the shared block from which on scopes are left until so many stay, and then a block is entered
+  abbrev pub leaves_before : JumpWay → Scopes → Building → ℕ × Building
+  leaves_before way [] s = share (GoesTo way.block) s
+  leaves_before way (scope ∷ S) s =
+      leaves_one (not (nat_lt (length S) way.base))
+      (drops_before (needing_drop f.items scope.entries) S (leaves_before way S s))
+      (share (GoesTo way.block) s)
 
   -- scopes are left until so many stay, and then a block is entered
   abbrev pub leaves_to : ℕ → JumpWay → Scopes → Building → BlockRest × Building
   leaves_to node way [] s = (ending (Term.Goto way.block) node, s)
   leaves_to node way (scope ∷ S) s =
       leaves_one (not (nat_lt (length S) way.base))
-      (let rest = leaves_to node way S s in drop_all (needing_drop f.items scope.entries) S rest.0 rest.1)
+      (drops_to (needing_drop f.items scope.entries) S (leaves_before way S s) (leaves_to node way S s))
       (ending (Term.Goto way.block) node, s)
 
   abbrev pub exits : ℕ → Exit → Lowers

@@ -505,7 +505,7 @@ module _ (f : LoweringFrame) where
   -- block 0 is the first of the body, and is built last; block 1 returns
   abbrev pub start : BodyTree → Building
   start body =
-      closed Kind.Plain (ending Term.Return (answer_key body)) (reserved (record { blocks = []; chains = [] }))
+      closed Kind.Plain (ending Term.Return (answer_key body)) (reserved (record { blocks = []; shared = λ i. [] }))
 
   abbrev pub answer_scope : BodyTree → Scopes
   answer_scope body =
@@ -515,7 +515,7 @@ module _ (f : LoweringFrame) where
   abbrev pub built : BodyTree → Building
   built body =
       let code = (entire_function body).build (body_ways 1) (answer_scope body)
-      (ending (Term.Goto 1) (answer_key body)) (start body) in
+      (ending (Term.Goto 1) 0) (start body) in
       filled Kind.Plain 0 code.0 code.1
 
 -- every number that is given out has its block by then

@@ -18,9 +18,11 @@ enum RowQuestion {
     Words,
     /// What `exec` writes first of a listing with this line at that number.
     Listing,
+    /// How many blocks `raw` lists.
+    Blocks,
 }
 
-static FILES: [(&str, RowQuestion); 13] = [
+static FILES: [(&str, RowQuestion); 14] = [
     ("grammar.rows", RowQuestion::Tree),
     ("item_rules.rows", RowQuestion::Items),
     ("items.rows", RowQuestion::Check),
@@ -34,6 +36,7 @@ static FILES: [(&str, RowQuestion); 13] = [
     ("refusals.rows", RowQuestion::Check),
     ("words.rows", RowQuestion::Words),
     ("damaged_listing.rows", RowQuestion::Listing),
+    ("sizes.rows", RowQuestion::Blocks),
 ];
 
 /// The first line that was written, without `refused: `.
@@ -81,6 +84,18 @@ fn answered_to_damage(alloc: Global, listing: &str, row: &str) -> Result<String,
     answer_of_row(alloc, "exec", damaged.as_str())
 }
 
+fn blocks_counted(alloc: Global, text: &str) -> Result<String, AllocError> {
+    let ended = run(alloc, "raw", text.as_bytes())?;
+    let listing = str::from_utf8(ended.written.bytes()).unwrap_or("no text");
+    let mut blocks = 0u32;
+    for line in listing.lines() {
+        if line.starts_with("block ") {
+            blocks = blocks.saturating_add(1);
+        }
+    }
+    format!(in alloc; "{blocks} blocks")
+}
+
 fn answer(
     alloc: Global,
     listing: &str,
@@ -93,6 +108,7 @@ fn answer(
         RowQuestion::Items => stands_or(alloc, has_items(alloc, row.as_bytes()), "items", row),
         RowQuestion::Words => answered_with_status(alloc, row),
         RowQuestion::Listing => answered_to_damage(alloc, listing, row),
+        RowQuestion::Blocks => blocks_counted(alloc, row),
     }
 }
 

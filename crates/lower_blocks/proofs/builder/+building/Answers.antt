@@ -2,7 +2,7 @@ use Rattle.std.proofs.Common.{rules, ◌≡◌, ◌∙◌, ◌∷◌, ◌++◌, 
 use Rattle.std.proofs.lemmas.Option.{none-some}
 use Rattle.std.proofs.lemmas.Result.{on_ok_weaker}
 use Rattle.lower_rules.specs.Build as build
-use Rattle.lower_rules.specs.Build.{LoweringFrame, Lowers, BlockRest, Building}
+use Rattle.lower_rules.specs.Build.{LoweringFrame, BlockRest, Building}
 use Rattle.lower_rules.specs.Lower.{LowersArm}
 use Rattle.lower_rules.specs.Codes.{lowers, lowers_arm, lowers_arms, guarded, built_from}
 use Rattle.cfg_graph.specs.declared.graph.Kind.{Kind}
@@ -249,7 +249,7 @@ build_turn-returns t c = λ turn start one.
     let f : LoweringFrame = frame_at c.args.at.now in
     let S : Scopes = scopes_of c.args.at.now.scopes.now in
     let b : Building = building_of c.args.blocks.now in
-    let K : BlockRest = build.ending (Term.Goto c.args.way.turn) c.args.way.id.0 in
+    let K : BlockRest = build.ending (Term.Goto c.args.way.turn) 0 in
     let loops : c.as_slice.result.now ≡ c.args.way ∷ c.args.at.now.ways.loops.now = search rules in
     let built : built_of c.build_one.new.blocks ≡ turn_at c.args.at.now c.args.way turn b =
     c.in_ok-build_one.ensures turn start one

@@ -8,4 +8,5 @@ use Rattle.lower_blocks.proofs.exits.exit.Goals as goal
 pub returns : goal.returns
 returns c =
     on_ok_weaker c.leave_to.result
-    (λ made. made (build.way_of (exit_of c.args.to) (ways_of c.args.ways)) (sym c.way_for.ensures.0) (sym c.way_for.ensures.1)) c.leave_to.ensures
+    (λ made. made (build.way_of (exit_of c.args.to) (ways_of c.args.ways)) (sym c.way_for.ensures.0)
+    (sym c.way_for.ensures.1)) c.leave_to.ensures

@@ -1,7 +1,7 @@
 use Rattle.std.proofs.Common.{rules, ◌≡◌, ◌∙◌, ℕ, suc, true, false, List, map, sym, ap, subst}
 use Rattle.std.proofs.lemmas.Result.{on_ok_weaker}
 use Rattle.lower_rules.specs.Build as build
-use Rattle.lower_rules.specs.Build.{LoweringFrame, Lowers}
+use Rattle.lower_rules.specs.Build.{LoweringFrame}
 use Rattle.lower_rules.specs.Codes.{lowers}
 use Rattle.lower_blocks.specs.Building.{rest_of, building_of, ways_of}
 use Rattle.lower_passes.specs.Scoped.{scopes_of}

@@ -19,4 +19,4 @@ returns-then-number-len c =
     ap (map (option_map made_of)) c.set.ensures
     ∙ map-set (option_map made_of) old.made c.args.number (Some m)
     ∙ ap (λ (b : build.MadeBlock). slice_set seen c.args.number (Some b)) is in
-    (λ i. (c.in_ok-made.ensures.1 i, record { blocks = blocks i; chains = (building_of old).chains }))
+    (λ i. (c.in_ok-made.ensures.1 i, record { blocks = blocks i; shared = (building_of old).shared }))
